@@ -2,16 +2,16 @@
 use Rattle.std.proofs.Common.{◌≡◌, ℕ, ◌+◌, ◌-◌, ◌<◌, ◌≤◌, List, [], ◌∷◌, ◌++◌, length, take, drop, replicate, refl, ap, sym, ◌∙◌, arith}
 use Rattle.std.proofs.lemmas.List.{drop_all, take_all, take-append-le}
 use Rattle.cfb_medium.specs.Bytes.{overwritten}
-use Rattle.cfb_live.proofs.Below.{changed_twice}
+use Rattle.cfb_tree_edits.proofs.Below.{changed_twice}
 use Rattle.cfb_tree.specs.Changes.{changed, changed_below, with_bytes}
-use Rattle.cfb_tree.specs.Names.{Letters}
+use Rattle.cfb_tree.specs.Names.{CaseTable}
 use Rattle.cfb_tree.specs.Objects.{a_storage, a_stream, name_of, root_object, tree_of, Object}
 use Rattle.cfb_tree.specs.Paths.{Path}
 use Rattle.cfb_tree.specs.Tree.{Tree}
-use Rattle.cfb_writing.specs.Streams.{resized}
-use Rattle.cfb_writing.proofs.LongBytes.{length-resized}
+use Rattle.cfb_stream_writes.specs.Streams.{resized}
+use Rattle.cfb_stream_writes.proofs.LongBytes.{length-resized}
 
-module _ (letters : Letters) where
+module _ (letters : CaseTable) where
   below_named : (bytes : List ℕ) (names : Path) (o : Object) → name_of (changed_below letters (with_bytes bytes) names o) ≡ name_of o
   below_named bytes [] (a_stream n s x) = refl
   below_named bytes [] (a_storage n f i) = refl

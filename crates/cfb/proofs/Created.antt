@@ -6,27 +6,27 @@ use Rattle.cfb_creating.specs.NewFile.{empty_tree, new_file}
 use Rattle.cfb_creating.proofs.NewBytes.{length-new_file, long_enough}
 use Rattle.cfb_creating.proofs.NewMeaning.{is_header, new_means, new_opens, new_sound}
 use Rattle.cfb_fat.specs.Tables.{bytes_of}
-use Rattle.cfb_meaning.proofs.OneTree.{tree_unique, version_unique}
-use Rattle.cfb_meaning.specs.Means as meaning
-use Rattle.cfb_meaning.specs.Sound.{IsSound}
+use Rattle.cfb_spec.proofs.OneTree.{tree_unique, version_unique}
+use Rattle.cfb_spec.specs.Means as meaning
+use Rattle.cfb_spec.specs.Sound.{IsSoundContainer}
 use Rattle.cfb_medium.specs.Bytes.{overwritten}
-use Rattle.cfb_medium.specs.Calls.{Extends}
+use Rattle.cfb_medium.specs.Calls.{Reaches}
 use Rattle.cfb_medium.specs.Numbers.{u16_at}
 use Rattle.cfb_medium.specs.Versions.{major, sector_len}
 use Rattle.cfb_medium.specs.declared.medium.ReadMedium.{Ghosts}
 use Rattle.cfb_medium.specs.declared.version.Version.{Version}
 use Rattle.cfb_mini.specs.Views.{allocator_of}
 use Rattle.cfb_opening.specs.Opened as opening
-use Rattle.cfb_owners.specs.Kept.{layout_of}
-use Rattle.cfb_owners.proofs.MeansIs.{means_is}
-use Rattle.cfb_live.specs.Live.{live_of}
+use Rattle.cfb_ownership.specs.LiveInvariant.{layout_of}
+use Rattle.cfb_ownership.proofs.MeansIs.{means_is}
+use Rattle.cfb_tree_edits.specs.Live.{live_of}
 use Rattle.cfb_sectors.specs.declared.validation.Validation.TheVariants.{Permissive}
-use Rattle.cfb_tree.specs.Names.{Letters}
+use Rattle.cfb_tree.specs.Names.{CaseTable}
 use Rattle.cfb_tree.specs.Tree.{Tree}
 use Rattle.cfb.specs.Creating.{IsCreated}
-use Rattle.cfb.specs.Doing.{FileMeans}
+use Rattle.cfb.specs.FollowedRules.{FileMeansTree}
 use Rattle.cfb.specs.Opened.{IsOpenedAs}
-use Rattle.cfb.specs.Views.{letters_in, mini_of}
+use Rattle.cfb.specs.Views.{file_case_table, mini_of}
 use Rattle.cfb.specs.declared.compound_file.CompoundFile.{CompoundFile}
 use Rattle.cfb.proofs.Holding.{holds_opened}
 
@@ -51,21 +51,21 @@ over_front old (x ∷ new) some =
 some_bytes : (v : Version) → 0 < length (new_file v)
 some_bytes v = let long = length-new_file v in let some = long_enough v in omega (arith, long, some)
 
-module _ (v : Version) (letters : Letters) (old now : List ℕ) (is : now ≡ overwritten old 0 (new_file v)) where
+module _ (v : Version) (letters : CaseTable) (old now : List ℕ) (is : now ≡ overwritten old 0 (new_file v)) where
   behind : now ≡ new_file v ++ drop (length (new_file v)) old
   behind = is ∙ over_front old (new_file v) (some_bytes v)
 
-  pub means_new : meaning.Means letters now empty_tree
+  pub means_new : meaning.BytesMeanTree letters now empty_tree
   means_new = subst (λ bs. meaning.Means letters bs empty_tree) (sym behind) (new_means v (drop (length (new_file v)) old) letters)
 
   pub opens_new : meaning.IsOpenable letters now
   opens_new = subst (λ bs. meaning.IsOpenable letters bs) (sym behind) (new_opens v (drop (length (new_file v)) old) letters)
 
-  pub sound_new : length old ≤ 3 * sector_len v → IsSound letters now
+  pub sound_new : length old ≤ 3 * sector_len v → IsSoundContainer letters now
   sound_new few =
       let long = length-new_file v in
       let alone : now ≡ new_file v = behind ∙ ap (λ xs. new_file v ++ xs) (drop_all (length (new_file v)) old (omega (arith, few, long))) ∙ append-nil (new_file v) in
-      subst (IsSound letters) (sym alone) (new_sound v letters)
+      subst (IsSoundContainer letters) (sym alone) (new_sound v letters)
 
   pub version_new : (l : meaning.Layout) → meaning.IsLaidOut now l → l.version ≡ v
   version_new l laid =
@@ -74,13 +74,13 @@ module _ (v : Version) (letters : Letters) (old now : List ℕ) (is : now ≡ ov
 
 module _ {F : Type 0} {g : Ghosts F} where
   -- the bytes that a file means mean its tree
-  meant_bytes : (it : CompoundFile F g) (tree : Tree) → FileMeans it tree → meaning.Means (letters_in it) (bytes_of (allocator_of (mini_of it))) tree
+  meant_bytes : (it : CompoundFile F g) (tree : Tree) → FileMeansTree it tree → meaning.BytesMeanTree (file_case_table it) (bytes_of (allocator_of (mini_of it))) tree
   unfolding live_of
-  meant_bytes it tree m = (layout_of (live_of (mini_of it)) m.live.who m.live.held.root m.live.held.ids, means_is (live_of (mini_of it)) m.live.who (letters_in it) tree m.live.held)
+  meant_bytes it tree m = (layout_of (live_of (mini_of it)) m.live.who m.live.held.root m.live.held.ids, means_is (live_of (mini_of it)) m.live.who (file_case_table it) tree m.live.held)
 
-  pub created_so : (v : Version) (letters : Letters) (old mid : F) (it : CompoundFile F g)
-      → (IsTrue (g.honest old) → g.bytes mid ≡ overwritten (g.bytes old) 0 (new_file v)) → g.honest mid ≡ g.honest old → Extends g.continues old mid
-      → opening.OpensAt mid (mini_of it) → letters_in it ≡ letters → (IsTrue (g.honest mid) → IsOpenedAs Permissive letters (g.bytes mid) it)
+  pub created_so : (v : Version) (letters : CaseTable) (old mid : F) (it : CompoundFile F g)
+      → (IsTrue (g.honest old) → g.bytes mid ≡ overwritten (g.bytes old) 0 (new_file v)) → g.honest mid ≡ g.honest old → Reaches g.continues old mid
+      → opening.OpensAt mid (mini_of it) → file_case_table it ≡ letters → (IsTrue (g.honest mid) → IsOpenedAs Permissive letters (g.bytes mid) it)
       → IsCreated v letters old it
   created_so v letters old mid it written same extends opens named opened =
       let so : IsTrue (g.honest old) → IsTrue (g.honest mid) = λ is. subst IsTrue (sym same) is in
@@ -97,8 +97,8 @@ module _ {F : Type 0} {g : Ghosts F} where
         means = λ is few.
             let told = opened (so is) in
             let meant = told.means (told.sound.1 (sound_new v letters (g.bytes old) (g.bytes mid) (written is) few)) in
-            let here : meaning.Means letters (g.bytes mid) meant.0 =
+            let here : meaning.BytesMeanTree letters (g.bytes mid) meant.0 =
             subst (λ bs. meaning.Means letters bs meant.0) (opens.bytes (so is)) (subst (λ n. meaning.Means n (bytes_of (allocator_of (mini_of it))) meant.0) named (meant_bytes it meant.0 meant.1)) in
             let one = tree_unique letters (g.bytes mid) meant.0 empty_tree here (means_new v letters (g.bytes old) (g.bytes mid) (written is)) in
-            subst (λ (t : Tree). FileMeans it t) one meant.1;
+            subst (λ (t : Tree). FileMeansTree it t) one meant.1;
       }

@@ -4,9 +4,9 @@ use Rattle.std.specs.Prelude.{slice_get, Some}
 use Rattle.cfb_medium.specs.declared.medium.ReadMedium.{Ghosts}
 use Rattle.cfb_sectors.specs.declared.validation.Validation.{Validation}
 use Rattle.cfb_fat.specs.Tables.{bytes_of}
-use Rattle.cfb_tree.specs.Names.{Letters}
+use Rattle.cfb_tree.specs.Names.{CaseTable}
 use Rattle.cfb_tree.specs.Directory.{Entry, Holds as HoldsContent, Siblings}
-use Rattle.cfb_tree.specs.Objects.{HoldsTree}
+use Rattle.cfb_tree.specs.Objects.{EntriesHoldTree}
 use Rattle.cfb_tree.specs.Tree.{Tree}
 use Rattle.cfb_tree.proofs.OneContent.{siblings_unique}
 use Rattle.cfb_tree.specs.Entries.{HasSize}
@@ -14,19 +14,19 @@ use Rattle.cfb_directory.specs.Views.{entries_held}
 use Rattle.cfb_mini.specs.Views as mini
 use Rattle.cfb_mini.specs.Views.{allocator_of, directory_of}
 use Rattle.cfb_mini.specs.declared.mini_allocator.MiniAllocator.{MiniAllocator}
-use Rattle.cfb_meaning.specs.Means.{directory, HasBytes, Layout, Means, MeansBy}
-use Rattle.cfb_meaning.proofs.OneTree.{directory_same, layout_same, root_same}
+use Rattle.cfb_spec.specs.Means.{directory, HasBytes, Layout, BytesMeanTree, BytesMeanTreeBy}
+use Rattle.cfb_spec.proofs.OneTree.{directory_same, layout_same, root_same}
 use Rattle.cfb_opening.specs.Opened as opening
 use Rattle.cfb_opening.proofs.Readings.{bytes_have_size, means_less}
 use Rattle.cfb_soundness.proofs.Refilling.{entries_same}
 use Rattle.cfb.specs.Opened.{IsOpenedAs}
-use Rattle.cfb.specs.Streams.{FileHolds}
-use Rattle.cfb.specs.Views.{letters_in, mini_of, FileRests, FileShows}
+use Rattle.cfb.specs.Streams.{FileHoldsTree}
+use Rattle.cfb.specs.Views.{file_case_table, mini_of, OnlyReadsFile, FileShowsTree}
 use Rattle.cfb.specs.declared.compound_file.CompoundFile.{CompoundFile}
 
 -- a meaning in whatever layout is one in the layout that is known
-pub meant_so : (letters : Letters) (bytes : List ℕ) (l : Layout) (shown tree : Tree) (Reads : Entry → List ℕ → Type 0)
-    → MeansBy l Reads letters bytes shown → Means letters bytes tree → MeansBy l (HasBytes bytes l) letters bytes tree
+pub meant_so : (letters : CaseTable) (bytes : List ℕ) (l : Layout) (shown tree : Tree) (Reads : Entry → List ℕ → Type 0)
+    → BytesMeanTreeBy l Reads letters bytes shown → BytesMeanTree letters bytes tree → BytesMeanTreeBy l (HasBytes bytes l) letters bytes tree
 meant_so letters bytes l shown tree Reads m (k, s) =
     let dirs = directory_same bytes l k m.laid_out s.laid_out in
     let roots = root_same bytes l k m.laid_out s.laid_out in
@@ -37,10 +37,10 @@ meant_so letters bytes l shown tree Reads m (k, s) =
     subst (λ ids. HoldsContent (directory bytes l) (HasBytes bytes k) ids tree.content k.entries) children
     (subst (λ d. HoldsContent d (HasBytes bytes k) s.children tree.content k.entries) dirs s.holds) in
     let entries = entries_same letters (directory bytes l) (HasBytes bytes k) Reads tree.content shown.content m.children k.entries l.entries holds m.holds in
-    subst (λ (x : Layout). MeansBy x (HasBytes bytes x) letters bytes tree) (layout_same bytes l k m.laid_out s.laid_out entries) s
+    subst (λ (x : Layout). BytesMeanTreeBy x (HasBytes bytes x) letters bytes tree) (layout_same bytes l k m.laid_out s.laid_out entries) s
 
 -- entries that mean a tree hold it
-pub tree_held : (l : Layout) (Reads : Entry → List ℕ → Type 0) (letters : Letters) (bytes : List ℕ) (tree : Tree) → MeansBy l Reads letters bytes tree → HoldsTree letters Reads (directory bytes l) tree
+pub tree_held : (l : Layout) (Reads : Entry → List ℕ → Type 0) (letters : CaseTable) (bytes : List ℕ) (tree : Tree) → BytesMeanTreeBy l Reads letters bytes tree → EntriesHoldTree letters Reads (directory bytes l) tree
 tree_held l Reads letters bytes tree means = record {
   root = l.root;
   root_found = means.laid_out.root_found;
@@ -56,7 +56,7 @@ tree_held l Reads letters bytes tree means = record {
 
 module _ {F : Type 0} {g : Ghosts F} where
   -- reads keep the layout that memory shows
-  pub shows_yet : (old new : MiniAllocator F g) (bytes : List ℕ) (l : Layout) → mini.MiniRests old new → opening.MemoryShows old bytes l → opening.MemoryShows new bytes l
+  pub shows_yet : (old new : MiniAllocator F g) (bytes : List ℕ) (l : Layout) → mini.OnlyReadsMini old new → opening.MemoryShows old bytes l → opening.MemoryShows new bytes l
   shows_yet old new bytes l rests s =
       let r = rests.directory in
       record {
@@ -72,8 +72,8 @@ module _ {F : Type 0} {g : Ghosts F} where
         entries = r.entries ∙ s.entries;
       }
 
-  pub holds_opened : (validation : Validation) (letters : Letters) (medium : F) (it : CompoundFile F g) (tree : Tree) → IsTrue (g.honest medium)
-      → opening.OpensAt medium (mini_of it) → letters_in it ≡ letters → IsOpenedAs validation letters (g.bytes medium) it → Means letters (g.bytes medium) tree → FileHolds it tree
+  pub holds_opened : (validation : Validation) (letters : CaseTable) (medium : F) (it : CompoundFile F g) (tree : Tree) → IsTrue (g.honest medium)
+      → opening.OpensAt medium (mini_of it) → file_case_table it ≡ letters → IsOpenedAs validation letters (g.bytes medium) it → BytesMeanTree letters (g.bytes medium) tree → FileHoldsTree it tree
   holds_opened validation letters medium it tree is opens named opened means =
       let same = sym (opens.bytes is) in
       let here = meant_so letters (g.bytes medium) opened.layout opened.tree tree HasSize opened.opened.means means in
@@ -83,11 +83,11 @@ module _ {F : Type 0} {g : Ghosts F} where
         memory = opens.memory;
         layout = opened.layout;
         shows = subst (λ b. opening.MemoryShows (mini_of it) b opened.layout) same opened.opened.shows;
-        means = subst (λ n. MeansBy opened.layout (HasBytes (bytes_of (allocator_of (mini_of it))) opened.layout) n (bytes_of (allocator_of (mini_of it))) tree) (sym named)
-            (subst (λ b. MeansBy opened.layout (HasBytes b opened.layout) letters b tree) same here);
+        means = subst (λ n. BytesMeanTreeBy opened.layout (HasBytes (bytes_of (allocator_of (mini_of it))) opened.layout) n (bytes_of (allocator_of (mini_of it))) tree) (sym named)
+            (subst (λ b. BytesMeanTreeBy opened.layout (HasBytes b opened.layout) letters b tree) same here);
       }
 
-  pub holds_yet : (old new : CompoundFile F g) (tree : Tree) → FileRests old new → FileHolds old tree → FileHolds new tree
+  pub holds_yet : (old new : CompoundFile F g) (tree : Tree) → OnlyReadsFile old new → FileHoldsTree old tree → FileHoldsTree new tree
   holds_yet old new tree rests h =
       let below = rests.mini.directory.allocator.sectors in
       let same = sym (below.bytes h.honest) in
@@ -97,26 +97,26 @@ module _ {F : Type 0} {g : Ghosts F} where
         memory = rests.mini.kept h.memory;
         layout = h.layout;
         shows = subst (λ b. opening.MemoryShows (mini_of new) b h.layout) same (shows_yet (mini_of old) (mini_of new) _ h.layout rests.mini h.shows);
-        means = subst (λ n. MeansBy h.layout (HasBytes (bytes_of (allocator_of (mini_of new))) h.layout) n (bytes_of (allocator_of (mini_of new))) tree) (sym rests.letters)
-            (subst (λ b. MeansBy h.layout (HasBytes b h.layout) (letters_in old) b tree) same h.means);
+        means = subst (λ n. BytesMeanTreeBy h.layout (HasBytes (bytes_of (allocator_of (mini_of new))) h.layout) n (bytes_of (allocator_of (mini_of new))) tree) (sym rests.letters)
+            (subst (λ b. BytesMeanTreeBy h.layout (HasBytes b h.layout) (file_case_table old) b tree) same h.means);
       }
 
-  pub shown_yet : (old new : CompoundFile F g) (tree : Tree) → FileRests old new → FileShows old tree → FileShows new tree
+  pub shown_yet : (old new : CompoundFile F g) (tree : Tree) → OnlyReadsFile old new → FileShowsTree old tree → FileShowsTree new tree
   shown_yet old new tree rests h =
-      subst (λ n. HoldsTree n HasSize (entries_held (directory_of (mini_of new))) tree) (sym rests.letters)
-      (subst (λ es. HoldsTree (letters_in old) HasSize es tree) (sym rests.mini.directory.entries) h)
+      subst (λ n. EntriesHoldTree n HasSize (entries_held (directory_of (mini_of new))) tree) (sym rests.letters)
+      (subst (λ es. EntriesHoldTree (file_case_table old) HasSize es tree) (sym rests.mini.directory.entries) h)
 
   -- with their bytes the entries in memory hold it
-  pub entries_hold : (it : CompoundFile F g) (tree : Tree) (h : FileHolds it tree)
-      → HoldsTree (letters_in it) (HasBytes (bytes_of (allocator_of (mini_of it))) h.layout) (entries_held (directory_of (mini_of it))) tree
+  pub entries_hold : (it : CompoundFile F g) (tree : Tree) (h : FileHoldsTree it tree)
+      → EntriesHoldTree (file_case_table it) (HasBytes (bytes_of (allocator_of (mini_of it))) h.layout) (entries_held (directory_of (mini_of it))) tree
   entries_hold it tree h =
-      subst (λ es. HoldsTree (letters_in it) (HasBytes (bytes_of (allocator_of (mini_of it))) h.layout) es tree) (sym h.shows.entries)
-      (tree_held h.layout (HasBytes (bytes_of (allocator_of (mini_of it))) h.layout) (letters_in it) (bytes_of (allocator_of (mini_of it))) tree h.means)
+      subst (λ es. EntriesHoldTree (file_case_table it) (HasBytes (bytes_of (allocator_of (mini_of it))) h.layout) es tree) (sym h.shows.entries)
+      (tree_held h.layout (HasBytes (bytes_of (allocator_of (mini_of it))) h.layout) (file_case_table it) (bytes_of (allocator_of (mini_of it))) tree h.means)
 
   -- and so it shows it
-  pub holds_shown : (it : CompoundFile F g) (tree : Tree) → FileHolds it tree → FileShows it tree
+  pub holds_shown : (it : CompoundFile F g) (tree : Tree) → FileHoldsTree it tree → FileShowsTree it tree
   holds_shown it tree h =
       let bytes = bytes_of (allocator_of (mini_of it)) in
-      subst (λ es. HoldsTree (letters_in it) HasSize es tree) (sym h.shows.entries)
-      (tree_held h.layout HasSize (letters_in it) bytes tree
-      (means_less (HasBytes bytes h.layout) HasSize (λ e content has. bytes_have_size bytes h.layout e content has) h.layout (letters_in it) bytes tree h.means))
+      subst (λ es. EntriesHoldTree (file_case_table it) HasSize es tree) (sym h.shows.entries)
+      (tree_held h.layout HasSize (file_case_table it) bytes tree
+      (means_less (HasBytes bytes h.layout) HasSize (λ e content has. bytes_have_size bytes h.layout e content has) h.layout (file_case_table it) bytes tree h.means))

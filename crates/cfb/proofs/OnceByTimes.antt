@@ -1,6 +1,6 @@
 -- A list in which no number stands twice, told by how often each stands in it.
 use Rattle.std.proofs.Common.{◌≡◌, ℕ, ◌+◌, ◌<◌, ◌≤◌, List, [], ◌∷◌, ◌++◌, length, get_or, zero, suc, refl, ap, sym, arith}
-use Rattle.cfb_chains.specs.Changes.{AreOnce}
+use Rattle.cfb_chains.specs.Changes.{AreDistinct}
 use Rattle.cfb_soundness.specs.Marks.{times}
 use Rattle.cfb_soundness.proofs.PartsOnce.{times_here}
 
@@ -12,7 +12,7 @@ times_at [] k n below is = absurd (omega (arith, below))
 times_at (x ∷ xs) zero n below is = let here = times_here n xs in let same : times n (x ∷ xs) ≡ times n (n ∷ xs) = ap (λ y. times n (y ∷ xs)) is in omega (arith, here, same)
 times_at (x ∷ xs) (suc k) n below is = let later = times_at xs k n (omega (arith, below)) is in let more = times_rest n x xs in omega (arith, later, more)
 
-pub once_by_times : (xs : List ℕ) → ((n : ℕ) → times n xs ≤ 1) → AreOnce xs
+pub once_by_times : (xs : List ℕ) → ((n : ℕ) → times n xs ≤ 1) → AreDistinct xs
 once_by_times [] few k l inside there same = absurd (omega (arith, inside))
 once_by_times (x ∷ xs) few zero zero inside there same = refl
 once_by_times (x ∷ xs) few zero (suc l) inside there same =

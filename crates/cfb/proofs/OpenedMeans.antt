@@ -6,12 +6,12 @@ use Rattle.std.proofs.lemmas.List.{length-replicate}
 use Rattle.cfb_medium.specs.Numbers.{all_pieces, pieces}
 use Rattle.cfb_medium.specs.declared.medium.ReadMedium.{Ghosts}
 use Rattle.cfb_sectors.specs.Sectors.{fat_in, free, joined, sectors_in, AreInFile}
-use Rattle.cfb_fat.specs.Orderly.{AreBelow, IsOrderly}
+use Rattle.cfb_fat.specs.Orderly.{AreBelow, AreTablesConsistent}
 use Rattle.cfb_fat.specs.Tables.{bytes_of, version_of}
 use Rattle.cfb_fat.proofs.DifatChains.{in_file_below}
 use Rattle.cfb_fat.proofs.TableWords.{length-difat}
 use Rattle.cfb_tree.specs.Directory.{entries_of, Holds, Siblings}
-use Rattle.cfb_tree.specs.Names.{Letters}
+use Rattle.cfb_tree.specs.Names.{CaseTable}
 use Rattle.cfb_tree.specs.Tree.{Tree}
 use Rattle.cfb_tree.proofs.OneContent.{siblings_unique}
 use Rattle.cfb_tree.specs.Entries.{HasSize}
@@ -19,20 +19,20 @@ use Rattle.cfb_directory.specs.Entries.{SizesFit}
 use Rattle.cfb_directory.specs.Views.{entries_held}
 use Rattle.cfb_mini.specs.Views.{allocator_of, directory_of}
 use Rattle.cfb_mini.specs.declared.mini_allocator.MiniAllocator.{MiniAllocator}
-use Rattle.cfb_meaning.specs.Means.{directory, HasBytes, Layout, MeansBy}
-use Rattle.cfb_meaning.specs.Sound.{IsSound, IsSoundBy}
-use Rattle.cfb_meaning.proofs.OneTree.{directory_same, layout_same, root_same}
-use Rattle.cfb_owners.specs.LiveFile.{live_file, LiveFile}
-use Rattle.cfb_owners.specs.Held.{MeansHeld}
-use Rattle.cfb_owners.proofs.HeldIs.{held_is}
-use Rattle.cfb_owners.proofs.KeysOfParts.{sectors_of_map}
-use Rattle.cfb_owners.proofs.UsesOwned.{owners_of, used}
+use Rattle.cfb_spec.specs.Means.{directory, HasBytes, Layout, BytesMeanTreeBy}
+use Rattle.cfb_spec.specs.Sound.{IsSoundContainer, IsSoundBy}
+use Rattle.cfb_spec.proofs.OneTree.{directory_same, layout_same, root_same}
+use Rattle.cfb_ownership.specs.LiveFile.{live_file, LiveFile}
+use Rattle.cfb_ownership.specs.Held.{OwnersHoldTree}
+use Rattle.cfb_ownership.proofs.HeldIs.{held_is}
+use Rattle.cfb_ownership.proofs.KeysOfParts.{sectors_of_map}
+use Rattle.cfb_ownership.proofs.UsesOwned.{owners_of, used}
 use Rattle.cfb_opening.specs.Opened.{OpensAt, MemoryShows}
 use Rattle.cfb_soundness.specs.Views.{LiesSo}
 use Rattle.cfb_soundness.proofs.InMemory.{count_is, entries_are, fat_is, mini_fat_is}
 use Rattle.cfb_soundness.proofs.Judged.{judged_from_sound}
 use Rattle.cfb_soundness.proofs.Refilling.{entries_same}
-use Rattle.cfb_live.specs.Live.{live_of, MeansLive}
+use Rattle.cfb_tree_edits.specs.Live.{live_of, LiveFileMeansTree}
 use Rattle.cfb.proofs.OpenedFiles.{lies_so}
 use Rattle.cfb.proofs.OnceByTimes.{once_by_times}
 use Rattle.cfb_soundness.proofs.Taking.{times_append}
@@ -57,11 +57,11 @@ below_all count (x ∷ xs) all zero inside = all.0
 below_all count (x ∷ xs) all (suc k) inside = below_all count xs all.1 k (omega (arith, inside))
 
 -- the tables of a sound file can be changed
-module _ (bytes : List ℕ) (l : Layout) (letters : Letters) (tree : Tree) (s : IsSoundBy l letters bytes tree) where
+module _ (bytes : List ℕ) (l : Layout) (letters : CaseTable) (tree : Tree) (s : IsSoundBy l letters bytes tree) where
   abbrev count : ℕ
   count = sectors_in l.version (length bytes)
 
-  orderly : IsOrderly l.version count (live_file bytes l).fat l.fat_sectors l.difat_sectors
+  orderly : AreTablesConsistent l.version count (live_file bytes l).fat l.fat_sectors l.difat_sectors
   orderly =
       let laid = s.means.laid_out in
       let judged = judged_from_sound bytes l letters tree s in
@@ -94,7 +94,7 @@ module _ (bytes : List ℕ) (l : Layout) (letters : Letters) (tree : Tree) (s : 
         named = omega (arith, named, longest, sum);
       }
 
-module _ {F : Type 0} {g : Ghosts F} (it : MiniAllocator F g) (letters : Letters) (l : Layout) (tree : Tree) (so : LiesSo it l) (fits : SizesFit (version_of (allocator_of it)) (entries_held (directory_of it))) (m : MeansBy l HasSize letters (bytes_of (allocator_of it)) tree) where
+module _ {F : Type 0} {g : Ghosts F} (it : MiniAllocator F g) (letters : CaseTable) (l : Layout) (tree : Tree) (so : LiesSo it l) (fits : SizesFit (version_of (allocator_of it)) (entries_held (directory_of it))) (m : BytesMeanTreeBy l HasSize letters (bytes_of (allocator_of it)) tree) where
   abbrev bytes : List ℕ
   bytes = bytes_of (allocator_of it)
 
@@ -112,7 +112,7 @@ module _ {F : Type 0} {g : Ghosts F} (it : MiniAllocator F g) (letters : Letters
       cc
 
   -- a sound file has this layout
-  sound_so : IsSound letters bytes → (other : Tree) × IsSoundBy l letters bytes other
+  sound_so : IsSoundContainer letters bytes → (other : Tree) × IsSoundBy l letters bytes other
   sound_so (k, other, s) =
       let dirs = directory_same bytes l k m.laid_out s.means.laid_out in
       let roots = root_same bytes l k m.laid_out s.means.laid_out in
@@ -125,13 +125,13 @@ module _ {F : Type 0} {g : Ghosts F} (it : MiniAllocator F g) (letters : Letters
       let same = layout_same bytes l k m.laid_out s.means.laid_out entries in
       (other, subst (λ (x : Layout). IsSoundBy x letters bytes other) same s)
 
-  pub sound_means : IsSound letters bytes → (other : Tree) × MeansLive letters it other
+  pub sound_means : IsSoundContainer letters bytes → (other : Tree) × LiveFileMeansTree letters it other
   unfolding live_of
   sound_means sound =
       let s = sound_so sound in
       let a = allocator_of it in
       let who = owners_of l (used bytes l letters s.0 s.1) in
-      let held : MeansHeld (live_of it) who letters s.0 = subst (λ (f : LiveFile). MeansHeld f who letters s.0) file_is (held_is bytes l letters s.0 s.1 (orderly bytes l letters s.0 s.1)) in (
+      let held : OwnersHoldTree (live_of it) who letters s.0 = subst (λ (f : LiveFile). OwnersHoldTree f who letters s.0) file_is (held_is bytes l letters s.0 s.1 (orderly bytes l letters s.0 s.1)) in (
         s.0,
         record {
           live = so.live;
@@ -152,8 +152,8 @@ module _ {F : Type 0} {g : Ghosts F} (it : MiniAllocator F g) (letters : Letters
 
 module _ {F : Type 0} {g : Ghosts F} where
   -- so it is of a medium that was opened
-  pub means_so : (old : F) (it : MiniAllocator F g) (l : Layout) (letters : Letters) (tree : Tree) → IsTrue (g.honest old) → OpensAt old it → MemoryShows it (g.bytes old) l → MeansBy l HasSize letters (g.bytes old) tree
-      → IsSound letters (g.bytes old) → (other : Tree) × MeansLive letters it other
+  pub means_so : (old : F) (it : MiniAllocator F g) (l : Layout) (letters : CaseTable) (tree : Tree) → IsTrue (g.honest old) → OpensAt old it → MemoryShows it (g.bytes old) l → BytesMeanTreeBy l HasSize letters (g.bytes old) tree
+      → IsSoundContainer letters (g.bytes old) → (other : Tree) × LiveFileMeansTree letters it other
   means_so old it l letters tree is opens shows means sound =
       let same = sym (opens.bytes is) in
-      sound_means it letters l tree (lies_so old it l is opens shows) opens.sizes (subst (λ b. MeansBy l HasSize letters b tree) same means) (subst (IsSound letters) same sound)
+      sound_means it letters l tree (lies_so old it l is opens shows) opens.sizes (subst (λ b. BytesMeanTreeBy l HasSize letters b tree) same means) (subst (IsSoundContainer letters) same sound)

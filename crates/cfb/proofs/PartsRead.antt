@@ -2,7 +2,7 @@
 use Rattle.std.proofs.Common.{◌≡◌, ℕ, ◌⊎◌, List, ◌++◌, length, take, drop, ap, sym, subst, ◌∙◌, inl, inr, ⊎_elim}
 use Rattle.std.proofs.Math.Seq.{take-append_seam}
 use Rattle.cfb_chains.specs.ChainCalls.{IsInvalidPlace}
-use Rattle.cfb_medium.specs.Calls.{IsFaultUnless}
+use Rattle.cfb_medium.specs.Calls.{IsFaultOrInvalidInputIf}
 use Rattle.cfb_medium.specs.declared.error.Error.{Error}
 
 -- what was read at the front of a buffer
@@ -12,7 +12,7 @@ part_read content buffer rest at n m long same is =
     front ∙ is ∙ ap (λ k. take k (drop at content)) same
 
 -- where each stream that there may be leaves faults alone, any other error says that there is none
-pub fault_or_lost : (Has : List ℕ → Type 0) (e : Error) → IsFaultUnless ⊥ e ⊎ IsInvalidPlace e → ((content : List ℕ) → Has content → IsFaultUnless ⊥ e)
-    → IsFaultUnless ⊥ e ⊎ (IsInvalidPlace e × ((content : List ℕ) → Has content → ⊥))
+pub fault_or_lost : (Has : List ℕ → Type 0) (e : Error) → IsFaultOrInvalidInputIf ⊥ e ⊎ IsInvalidPlace e → ((content : List ℕ) → Has content → IsFaultOrInvalidInputIf ⊥ e)
+    → IsFaultOrInvalidInputIf ⊥ e ⊎ (IsInvalidPlace e × ((content : List ℕ) → Has content → ⊥))
 fault_or_lost Has e told alone =
-    ⊎_elim (λ fault. inl fault) (λ place. inr (place, λ content has. ⊎_elim (λ is. subst (IsFaultUnless ⊥) is (alone content has)) (λ is. subst (IsFaultUnless ⊥) is (alone content has)) place)) told
+    ⊎_elim (λ fault. inl fault) (λ place. inr (place, λ content has. ⊎_elim (λ is. subst (IsFaultOrInvalidInputIf ⊥) is (alone content has)) (λ is. subst (IsFaultOrInvalidInputIf ⊥) is (alone content has)) place)) told

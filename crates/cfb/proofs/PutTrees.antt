@@ -4,13 +4,13 @@ use Rattle.std.specs.Prelude.{if◌then◌else◌, is_some, None, Option, Some}
 use Rattle.std.specs.Ordering.{is_lt}
 use Rattle.cfb_entries.specs.Others.{HasFreePlace}
 use Rattle.cfb_entries.proofs.Others.{added_stands, eq_self, path_is}
-use Rattle.cfb_meaning.specs.TreeRules.{create_new_stream, done, is_stream_found, made, on_storage, on_stream, refused, tree_step, Answer, Outcome}
+use Rattle.cfb_spec.specs.TreeRules.{create_new_stream, done, is_stream_found, made, on_storage, on_stream, refused, tree_step, Answer, Outcome}
 use Rattle.cfb_medium.specs.declared.error.Error.{Error}
 use Rattle.cfb_medium.specs.declared.error.Error.TheVariants.{AlreadyExists, InvalidInput}
 use Rattle.cfb_siblings.specs.Places.{path_to}
 use Rattle.cfb_siblings.proofs.Naming.{child_here}
 use Rattle.cfb_tree.specs.Changes.{added, changed, changed_below, holding, last_of, parent_of, with_bytes, with_changed, with_child}
-use Rattle.cfb_tree.specs.Names.{is_name, Letters, name_cmp}
+use Rattle.cfb_tree.specs.Names.{is_name, CaseTable, name_cmp}
 use Rattle.cfb_tree.specs.Objects.{a_storage, a_stream, before, child, is_same_name, name_of, object_at, object_from, root_object, tree_of, Object}
 use Rattle.cfb_tree.specs.Paths.{Path}
 use Rattle.cfb_tree.specs.Tree.{nothing, storage, stream, Content, Facts, Tree}
@@ -20,7 +20,7 @@ use Rattle.cfb.specs.Putting.{put_over, putting, rewriting}
 abbrev answered : Outcome → Answer
 answered outcome = outcome.1
 
-module _ (letters : Letters) where
+module _ (letters : CaseTable) where
   same_self : (a : List ℕ) → is_same_name letters a a ≡ true
   same_self a = eq_self (name_cmp letters a a) ((name_cmp_total letters).antisymm a a)
 

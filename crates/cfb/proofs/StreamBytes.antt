@@ -15,18 +15,18 @@ use Rattle.cfb_directory.proofs.ReadTrees.{linked_of}
 use Rattle.cfb_tree.specs.Directory.{Entry}
 use Rattle.cfb_mini.specs.LinkViews.{minis_of}
 use Rattle.cfb_mini.specs.Minis.{mini_joined, AreInside}
-use Rattle.cfb_mini.specs.Views.{allocator_of, mini_stream_ids, mini_stream_len, mini_stream_of, IsMini}
+use Rattle.cfb_mini.specs.Views.{allocator_of, mini_stream_ids, mini_stream_len, mini_stream_of, MiniMatchesBytes}
 use Rattle.cfb_mini.specs.declared.mini_allocator.MiniAllocator.{MiniAllocator}
 use Rattle.cfb_mini.proofs.MiniParts.{length-mini_joined}
 use Rattle.cfb_mini.proofs.Parts.{parts_are}
-use Rattle.cfb_meaning.specs.Means.{fat, mini_fat, mini_sector, mini_stream, HasBytes, Layout}
+use Rattle.cfb_spec.specs.Means.{fat, mini_fat, mini_sector, mini_stream, HasBytes, Layout}
 use Rattle.cfb_opening.specs.Opened.{MemoryShows}
 use Rattle.cfb_opening.proofs.CutChains.{cut_in_file, cut_of_chain}
-use Rattle.cfb_streams.specs.Content.{HasContent}
-use Rattle.cfb_streams.specs.Streams.{joined_in, len_in, sectors_in as sectors_of, HasSectorsOf, IsOfLevel, StreamLiesIn}
-use Rattle.cfb_streams.specs.declared.opening.StreamLinks.{StreamLinks}
-use Rattle.cfb_streams.specs.declared.opening.StreamLinks.TheVariants.{Short, Long}
-use Rattle.cfb_live.proofs.Freed.{inside_all}
+use Rattle.cfb_stream_reads.specs.Content.{SectorsHaveContent}
+use Rattle.cfb_stream_reads.specs.Streams.{joined_in, len_in, sectors_in as sectors_of, HasSectorsOf, IsOfLevel, StreamLiesIn}
+use Rattle.cfb_stream_reads.specs.declared.opening.StreamLinks.{StreamLinks}
+use Rattle.cfb_stream_reads.specs.declared.opening.StreamLinks.TheVariants.{Short, Long}
+use Rattle.cfb_tree_edits.proofs.Freed.{inside_all}
 use Rattle.cfb_fat.proofs.CutChains.{chain_of_cut}
 
 all_inside : (len : ℕ) (ids : List ℕ) → AreInside len ids → AllByRecursion (λ n. 64 * n + 64 ≤ len) ids
@@ -34,7 +34,7 @@ all_inside len [] inside = tt
 all_inside len (x ∷ ids) inside = (inside 0 (omega arith), all_inside len ids (λ k below. inside (suc k) (omega (arith, below))))
 
 -- a stream has as many bytes as it says
-pub content_len : {F : Type 0} {g : Ghosts F} (it : MiniAllocator F g) (links : StreamLinks) (len : ℕ) (content : List ℕ) → HasContent it links len content → length content ≡ len
+pub content_len : {F : Type 0} {g : Ghosts F} (it : MiniAllocator F g) (links : StreamLinks) (len : ℕ) (content : List ℕ) → SectorsHaveContent it links len content → length content ≡ len
 content_len it (Short minis) len content has =
     let size = length-mini_joined (mini_stream_of it) (minis_of minis) in
     let room = has.room in
@@ -45,7 +45,7 @@ content_len it (Long links) len content has =
     ap length has.bytes ∙ omega (arith, length-take len (joined (version_of (allocator_of it)) (bytes_of (allocator_of it)) (ids_of links)), size, room)
 
 -- the sectors in which a stream lies are there, and have room for it
-pub sectors_found : {F : Type 0} {g : Ghosts F} (it : MiniAllocator F g) → IsMini it → (start size : ℕ) (links : StreamLinks) → StreamLiesIn it start size (sectors_of links)
+pub sectors_found : {F : Type 0} {g : Ghosts F} (it : MiniAllocator F g) → MiniMatchesBytes it → (start size : ℕ) (links : StreamLinks) → StreamLiesIn it start size (sectors_of links)
     → IsOfLevel it size links → IsTrue (is_honest (allocator_of it)) → HasSectorsOf it links × (size ≤ len_in links)
 sectors_found it memory start size (Short minis) lies level is = ((memory, (lies.short level).1), (lies.short level).2)
 sectors_found it memory start size (Long links) lies level is =
@@ -54,7 +54,7 @@ sectors_found it memory start size (Long links) lies level is =
       subst (λ v. size ≤ length (ids_of links) * sector_len v) (sym level.1) at.1,
     )
 
-module _ {F : Type 0} {g : Ghosts F} (it : MiniAllocator F g) (l : Layout) (shows : MemoryShows it (bytes_of (allocator_of it)) l) (memory : IsMini it) (e : Entry) where
+module _ {F : Type 0} {g : Ghosts F} (it : MiniAllocator F g) (l : Layout) (shows : MemoryShows it (bytes_of (allocator_of it)) l) (memory : MiniMatchesBytes it) (e : Entry) where
   abbrev bytes : List ℕ
   bytes = bytes_of (allocator_of it)
 
@@ -114,7 +114,7 @@ module _ {F : Type 0} {g : Ghosts F} (it : MiniAllocator F g) (l : Layout) (show
             }
 
     -- and they are all that it may have
-    pub bytes_held : IsTrue (is_honest (allocator_of it)) → (content : List ℕ) → HasBytes bytes l e content → HasContent it links e.size content
+    pub bytes_held : IsTrue (is_honest (allocator_of it)) → (content : List ℕ) → HasBytes bytes l e content → SectorsHaveContent it links e.size content
     bytes_held is content has = record {
       honest = is;
       sectors = (sectors_held is).0;

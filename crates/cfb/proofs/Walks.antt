@@ -9,17 +9,17 @@ use Rattle.std.specs.declared.cmp.Ordering.TheVariants.{Less, Equal, Greater}
 use Rattle.std.proofs.lemmas.List.{get_or_append_left, get_or-append_right, get_or-append-add}
 use Rattle.std.proofs.lemmas.List.Elements.{Contains-append_left, Contains-append_right, All-from_recursion}
 use Rattle.std.proofs.lemmas.Map.Keys.{Less-from_sorted}
-use Rattle.cfb_meaning.specs.TreeRules.{Answer, entries, Shown, shown, all_shown, on_storage, stored_path, tree_step, walk}
+use Rattle.cfb_spec.specs.TreeRules.{Answer, entries, ShownObject, shown, all_shown, on_storage, stored_path, tree_step, walk}
 use Rattle.cfb_siblings.proofs.Naming.{less_turned}
 use Rattle.cfb_siblings.proofs.Ordering.{IsOrderedObject}
-use Rattle.cfb_tree.specs.Names.{Letters, name_cmp}
+use Rattle.cfb_tree.specs.Names.{CaseTable, name_cmp}
 use Rattle.cfb_tree.specs.Objects.{Object, a_stream, a_storage, name_of, inside_of, is_same_name, child, object_from, object_at, root_object}
 use Rattle.cfb_tree.specs.Paths.{Path}
 use Rattle.cfb_tree.specs.Tree.{Content, nothing, stream, storage, Facts, Tree, child_names, IsOrdered, IsOrderedInside}
 use Rattle.cfb_tree.proofs.NameOrder.{name_cmp_equal}
 use Rattle.cfb_tree.proofs.NamesRead.{all_append, two_sides}
 use Rattle.cfb_tree.proofs.OneContent.{Some_same}
-use Rattle.cfb.specs.Walks.{path_cmp, IsParentOf, IsWalk, AreShownOnce, AreFound, HaveParentsBefore, HaveEach, AreSiblingsInOrder, AreRising}
+use Rattle.cfb.specs.Walks.{path_cmp, IsParentOf, IsWalk, AreShownOnce, AreWalkedObjects, HaveParentsBefore, HaveEach, AreSiblingsInOrder, AreRising}
 
 -- ---- lists
 
@@ -51,7 +51,7 @@ below (storage n facts inside later) path Q P f h = (
       (below later path Q P f h.1),
 )
 
-module _ (letters : Letters) where
+module _ (letters : CaseTable) where
   name_self : (a : List ℕ) → name_cmp letters a a ≡ Equal
   name_self a = (name_cmp_equal letters a a).1 refl
 
@@ -94,7 +94,7 @@ module _ (letters : Letters) where
         (whatever (child_names inside))),
   )
 
-  walked_rising : (top : Shown) (c : Content) → IsOrdered letters c → AreRising letters (top ∷ all_shown top.path c)
+  walked_rising : (top : ShownObject) (c : Content) → IsOrdered letters c → AreRising letters (top ∷ all_shown top.path c)
   unfolding IsStrictlySortedBy
   walked_rising top c h = (
     below c top.path (λ m. Unit {0}) (λ p. path_cmp letters top.path p ≡ Less) (λ m rest u. front_first top.path m rest) (whatever (child_names c)),
@@ -106,7 +106,7 @@ module _ (letters : Letters) where
   not_both : (o : Ordering) → o ≡ Equal → o ≡ Less → ⊥
   not_both o equal less = cc
 
-  rising_once : (all : List Shown) → AreRising letters all → AreShownOnce all
+  rising_once : (all : List ShownObject) → AreRising letters all → AreShownOnce all
   rising_once all up i j d before short same =
       let less = Less-from_sorted (on (λ s. s.path) (path_cmp letters)) all i j d up before short in
       not_both (path_cmp letters (get_or all i d).path (get_or all i d).path) (path_self (get_or all i d).path)
@@ -117,7 +117,7 @@ module _ (letters : Letters) where
   first_decides Equal e = absurd (cc)
   first_decides Greater e = absurd (cc)
 
-  rising_siblings : (all : List Shown) → AreRising letters all → AreSiblingsInOrder letters all
+  rising_siblings : (all : List ShownObject) → AreRising letters all → AreSiblingsInOrder letters all
   rising_siblings all up i j d before short parent of_first of_second =
       let first = get_or all i d in
       let second = get_or all j d in
@@ -128,8 +128,8 @@ module _ (letters : Letters) where
 -- ---- parents
 
 -- what follows a storage, with one more child before it and what that holds
-module _ (top s : Shown) (mid later : List Shown) (of_top : IsParentOf top s) (in_mid : HaveParentsBefore (s ∷ mid)) (in_later : HaveParentsBefore (top ∷ later)) where
-  child_in_mid : (k : ℕ) (d : Shown) → k < length mid → (j : ℕ) × (j < suc (suc k)) × IsParentOf (get_or (top ∷ s ∷ (mid ++ later)) j d) (get_or (mid ++ later) k d)
+module _ (top s : ShownObject) (mid later : List ShownObject) (of_top : IsParentOf top s) (in_mid : HaveParentsBefore (s ∷ mid)) (in_later : HaveParentsBefore (top ∷ later)) where
+  child_in_mid : (k : ℕ) (d : ShownObject) → k < length mid → (j : ℕ) × (j < suc (suc k)) × IsParentOf (get_or (top ∷ s ∷ (mid ++ later)) j d) (get_or (mid ++ later) k d)
   child_in_mid k d short =
       let (j, before, is) = in_mid (suc k) d (omega arith) (omega (arith, short)) in (
         suc j,
@@ -138,7 +138,7 @@ module _ (top s : Shown) (mid later : List Shown) (of_top : IsParentOf top s) (i
             (subst (λ x. IsParentOf (get_or (s ∷ mid) j d) x) (sym (get_or_append_left mid later d k short)) is),
       )
 
-  child_in_later : (k : ℕ) (d : Shown) → k < length later → (j : ℕ) × (j < suc (suc (length mid + k))) × IsParentOf (get_or (top ∷ s ∷ (mid ++ later)) j d) (get_or later k d)
+  child_in_later : (k : ℕ) (d : ShownObject) → k < length later → (j : ℕ) × (j < suc (suc (length mid + k))) × IsParentOf (get_or (top ∷ s ∷ (mid ++ later)) j d) (get_or later k d)
   child_in_later k d short = let (j, before, is) = in_later (suc k) d (omega arith) (omega (arith, short)) in moved j before is
     where
       moved : (j : ℕ) → j < suc k → IsParentOf (get_or (top ∷ later) j d) (get_or later k d)
@@ -164,10 +164,10 @@ module _ (top s : Shown) (mid later : List Shown) (of_top : IsParentOf top s) (i
       ))
       (two_sides k (length mid))
 
-alone : (s : Shown) → HaveParentsBefore (s ∷ [])
+alone : (s : ShownObject) → HaveParentsBefore (s ∷ [])
 alone s k d some short = absurd (omega (arith, some, short))
 
-parents : (c : Content) (path : Path) (top : Shown) → top.is_storage ≡ true → top.path ≡ path → HaveParentsBefore (top ∷ all_shown path c)
+parents : (c : Content) (path : Path) (top : ShownObject) → top.is_storage ≡ true → top.path ≡ path → HaveParentsBefore (top ∷ all_shown path c)
 parents nothing path top is at = alone top
 parents (stream n b x later) path top is at =
     parents_joined top (shown (path ++ n ∷ []) (a_stream n b x)) [] (all_shown path later)
@@ -188,7 +188,7 @@ chosen : (R : Type 0) (x o : Object) (other : Option Object) (b : Bool) → (if 
 chosen R x o other true e first rest = first refl (Some_same e)
 chosen R x o other false e first rest = rest e
 
-module _ (letters : Letters) where
+module _ (letters : CaseTable) where
   from_none : (names : Path) → object_from letters None names ≡ None
   from_none [] = refl
   from_none (name ∷ names) = refl
@@ -239,7 +239,7 @@ module _ (letters : Letters) where
   further p start n f i is m = from_joined p start (m ∷ []) ∙ ap (λ o. object_from letters o (m ∷ [])) is ∙ from_end (child letters i m)
 
   module _ (tree : Tree) where
-    abbrev IsFound : Shown → Type 0
+    abbrev IsFound : ShownObject → Type 0
     IsFound s = (object : Object) × (object_at letters tree s.path ≡ Some object) × (s ≡ shown s.path object)
 
     found : (c : Content) (path : Path) (Q : List ℕ → Type 0) → AllByRecursion Q (child_names c) → IsOrdered letters c
@@ -271,12 +271,12 @@ module _ (letters : Letters) where
   -- ---- each that is found is shown
 
   -- an object and all that it holds, at a path
-  abbrev from_here : Path → Object → List Shown
+  abbrev from_here : Path → Object → List ShownObject
   from_here path o = shown path o ∷ all_shown path (inside_of o)
 
   record Stands (path : Path) (c : Content) (wanted : List ℕ) (o : Object) : Type 0 where
     same : name_cmp letters wanted (name_of o) ≡ Equal
-    there : (x : Shown) → Contains (from_here (path ++ name_of o ∷ []) o) x → Contains (all_shown path c) x
+    there : (x : ShownObject) → Contains (from_here (path ++ name_of o ∷ []) o) x → Contains (all_shown path c) x
 
   equal_from : (o : Ordering) → is_eq o ≡ true → o ≡ Equal
   equal_from Less e = absurd (cc)
@@ -324,19 +324,19 @@ module _ (letters : Letters) where
 
 -- ---- the answers of walks
 
-abbrev list_of : Answer → List Shown
+abbrev list_of : Answer → List ShownObject
 list_of (entries all) = all
 list_of answer = []
 
 -- a storage, and all that it holds
-record Walked (letters : Letters) (tree : Tree) (all : List Shown) : Type 0 where
-  top : Shown
+record Walked (letters : CaseTable) (tree : Tree) (all : List ShownObject) : Type 0 where
+  top : ShownObject
   content : Content
   is_storage : top.is_storage ≡ true
   ordered : IsOrdered letters tree.content → IsOrdered letters content
   all_is : top ∷ all_shown top.path content ≡ all
 
-module _ (letters : Letters) (tree : Tree) (all : List Shown) where
+module _ (letters : CaseTable) (tree : Tree) (all : List ShownObject) where
   walked_at : (path : Path) (o : Option Object) → object_at letters tree path ≡ o
       → (on_storage tree (λ o. (tree, entries (shown (stored_path path o) o ∷ all_shown (stored_path path o) (inside_of o)))) o).1 ≡ entries all
       → Walked letters tree all
@@ -366,8 +366,8 @@ module _ (letters : Letters) (tree : Tree) (all : List Shown) where
   pub walk_keeps_siblings_in_order : IsWalk letters tree all → IsOrdered letters tree.content → AreSiblingsInOrder letters all
   walk_keeps_siblings_in_order is h = rising_siblings letters all (walk_rises is h)
 
-  pub walk_shows_what_is_found : (tree_step letters tree walk).1 ≡ entries all → IsOrdered letters tree.content → AreFound letters tree all
-  walk_shows_what_is_found told h = subst (AreFound letters tree) (ap list_of told) (All-from_recursion (IsFound letters tree) (shown [] (root_object tree) ∷ all_shown [] tree.content) (all_found letters tree h))
+  pub walk_shows_what_is_found : (tree_step letters tree walk).1 ≡ entries all → IsOrdered letters tree.content → AreWalkedObjects letters tree all
+  walk_shows_what_is_found told h = subst (AreWalkedObjects letters tree) (ap list_of told) (All-from_recursion (IsFound letters tree) (shown [] (root_object tree) ∷ all_shown [] tree.content) (all_found letters tree h))
 
   pub walk_shows_each : (tree_step letters tree walk).1 ≡ entries all → HaveEach letters tree all
   walk_shows_each told path object at =

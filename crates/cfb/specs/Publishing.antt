@@ -4,9 +4,9 @@ use Rattle.cfb_fat.specs.Tables.{bytes_of, has_failed_here, is_honest, medium_of
 use Rattle.cfb_medium.specs.declared.medium.ReadMedium.{Ghosts}
 use Rattle.cfb_mini.specs.Views.{allocator_of}
 use Rattle.cfb_tree.specs.Tree.{Tree}
-use Rattle.cfb.specs.Doing.{FileMeans}
-use Rattle.cfb.specs.Streams.{FileHolds}
-use Rattle.cfb.specs.Views.{mini_of, FileRests, FileShows}
+use Rattle.cfb.specs.FollowedRules.{FileMeansTree}
+use Rattle.cfb.specs.Streams.{FileHoldsTree}
+use Rattle.cfb.specs.Views.{mini_of, OnlyReadsFile, FileShowsTree}
 use Rattle.cfb.specs.declared.compound_file.CompoundFile.{CompoundFile}
 
 module _ {F : Type 0} {g : Ghosts F} where
@@ -17,7 +17,7 @@ module _ {F : Type 0} {g : Ghosts F} where
   -- no call of the medium was made, and all is as it was
   pub record IsUntouched (old new : CompoundFile F g) : Type 0 where
     pub medium : medium_in new ≡ medium_in old
-    pub rests : FileRests old new
+    pub rests : OnlyReadsFile old new
 
   -- The bytes are published, so that a stop leaves these alone. The file has them yet, is live, and means, holds and shows the
   -- trees that it did.
@@ -25,6 +25,6 @@ module _ {F : Type 0} {g : Ghosts F} where
     pub published : IsTrue (is_honest (allocator_of (mini_of old))) → has_published (medium_in new) (bytes_of (allocator_of (mini_of old)))
     pub bytes : IsTrue (is_honest (allocator_of (mini_of old))) → bytes_of (allocator_of (mini_of new)) ≡ bytes_of (allocator_of (mini_of old))
     pub live : has_failed_here (allocator_of (mini_of new)) ≡ false
-    pub means : (tree : Tree) → FileMeans old tree → FileMeans new tree
-    pub holds : (tree : Tree) → FileHolds old tree → FileHolds new tree
-    pub shows : (tree : Tree) → FileShows old tree → FileShows new tree
+    pub means : (tree : Tree) → FileMeansTree old tree → FileMeansTree new tree
+    pub holds : (tree : Tree) → FileHoldsTree old tree → FileHoldsTree new tree
+    pub shows : (tree : Tree) → FileShowsTree old tree → FileShowsTree new tree

@@ -1,12 +1,12 @@
 -- What a stream that was removed leaves ([MS-CFB] 2.3, 2.4).
 use Rattle.std.specs.Prelude.{ℕ, ◌<◌, ◌≤◌, List}
 use Rattle.cfb_chains.specs.Changes.{HaveEntry}
-use Rattle.cfb_live.specs.Freeing.{AreGivenUp}
+use Rattle.cfb_tree_edits.specs.Freeing.{AreGivenUp}
 use Rattle.cfb_medium.specs.declared.medium.ReadMedium.{Ghosts}
 use Rattle.cfb_mini.specs.Views.{mini_fat_of}
 use Rattle.cfb_sectors.specs.Header.{mini_cutoff}
 use Rattle.cfb_sectors.specs.Sectors.{free}
-use Rattle.cfb_streams.specs.Streams.{StreamLiesIn}
+use Rattle.cfb_stream_reads.specs.Streams.{StreamLiesIn}
 use Rattle.cfb_tree.specs.Directory.{Entry}
 use Rattle.cfb.specs.Streams.{IsStreamAt}
 use Rattle.cfb.specs.Views.{mini_of}

@@ -1,24 +1,24 @@
 -- What a `CompoundFile` shows.
 use Rattle.std.specs.Prelude.{◌≡◌, ℕ, false, Bool, Option, Some, None}
 use Rattle.cfb_directory.specs.Views.{entries_held}
-use Rattle.cfb_entries.specs.Rules.{HoldsSizes}
+use Rattle.cfb_entries.specs.Rules.{EntriesHoldSizes}
 use Rattle.cfb_fat.specs.Tables.{has_failed_here}
-use Rattle.cfb_meaning.specs.TreeRules.{Answer, yes, Call, tree_step}
+use Rattle.cfb_spec.specs.TreeRules.{Answer, yes, Call, tree_step}
 use Rattle.cfb_medium.specs.declared.medium.ReadMedium.{Ghosts}
 use Rattle.cfb_mini.specs.Views as mini
 use Rattle.cfb_mini.specs.declared.mini_allocator.MiniAllocator.{MiniAllocator}
 use Rattle.cfb_sectors.specs.declared.validation.Validation.{Validation}
-use Rattle.cfb_streams.specs.Content.{most_of}
-use Rattle.cfb_streams.specs.declared.ahead.ReadAhead.{ReadAhead}
-use Rattle.cfb_streams.specs.declared.opening.StreamLinks.{StreamLinks}
-use Rattle.cfb_tree.specs.LetterViews as letter
-use Rattle.cfb_tree.specs.Names.{Letters}
+use Rattle.cfb_stream_reads.specs.Content.{most_of}
+use Rattle.cfb_stream_reads.specs.declared.ahead.ReadAhead.{ReadAhead}
+use Rattle.cfb_stream_reads.specs.declared.opening.StreamLinks.{StreamLinks}
+use Rattle.cfb_tree.specs.CaseTableViews as letter
+use Rattle.cfb_tree.specs.Names.{CaseTable}
 use Rattle.cfb_tree.specs.Paths.{Path}
 use Rattle.cfb_tree.specs.Tree.{Tree}
 use Rattle.cfb.specs.declared.compound_file.CompoundFile.{CompoundFile}
 
 -- yes or no: a path above the root is a no
-abbrev pub said_at : Letters → Tree → (Path → Call) → Option Path → Answer
+abbrev pub said_at : CaseTable → Tree → (Path → Call) → Option Path → Answer
 said_at letters tree call None = yes false
 said_at letters tree call (Some path) = (tree_step letters tree (call path)).1
 
@@ -28,8 +28,8 @@ module _ {F : Type 0} {g : Ghosts F} where
   mini_of it = it.mini
 
   -- the letter table under which names are compared ([MS-CFB] 2.6.4)
-  abbrev pub letters_in : CompoundFile F g → Letters
-  letters_in it = letter.letters_of it.letters
+  abbrev pub file_case_table : CompoundFile F g → CaseTable
+  file_case_table it = letter.case_table_of it.letters
 
   -- as which reader it was opened
   abbrev pub validation_of : CompoundFile F g → Validation
@@ -44,8 +44,8 @@ module _ {F : Type 0} {g : Ghosts F} where
   IsLive it = has_failed_here (mini.allocator_of (mini_of it)) ≡ false
 
   -- its entries hold the tree, of whose streams the sizes alone are known ([MS-CFB] 2.6)
-  abbrev pub FileShows : CompoundFile F g → Tree → Type 0
-  FileShows it tree = HoldsSizes (letters_in it) (entries_held (mini.directory_of (mini_of it))) tree
+  abbrev pub FileShowsTree : CompoundFile F g → Tree → Type 0
+  FileShowsTree it tree = EntriesHoldSizes (file_case_table it) (entries_held (mini.directory_of (mini_of it))) tree
 
   -- the sectors of the stream that is read, and its bytes that were read ahead
   abbrev pub links_held : CompoundFile F g → StreamLinks
@@ -59,9 +59,9 @@ module _ {F : Type 0} {g : Ghosts F} where
   most_ahead_of it = most_of (ahead_held it)
 
   -- it was only read: of its layers, letter table, reader and soundness all is as it was, and how many bytes it reads ahead
-  pub record FileRests (old new : CompoundFile F g) : Type 0 where
-    pub mini : mini.MiniRests (mini_of old) (mini_of new)
-    pub letters : letters_in new ≡ letters_in old
+  pub record OnlyReadsFile (old new : CompoundFile F g) : Type 0 where
+    pub mini : mini.OnlyReadsMini (mini_of old) (mini_of new)
+    pub letters : file_case_table new ≡ file_case_table old
     pub validation : validation_of new ≡ validation_of old
     pub sound : sound_of new ≡ sound_of old
     pub most : most_ahead_of new ≡ most_ahead_of old

@@ -1,13 +1,13 @@
 //! The file: its objects by their paths.
 ghost use Rattle.cfb_directory.specs.Entries.{entries_in};
 ghost use Rattle.cfb_directory.specs.Views.{entries_held};
-ghost use Rattle.cfb_entries.specs.Lists.{TellsEntries};
+ghost use Rattle.cfb_entries.specs.Lists.{ReturnsEntries};
 ghost use Rattle.cfb_entries.specs.Rules.{answer_at, names_in, TellsEntry};
 ghost use Rattle.cfb_fat.specs.Tables.{has_failed, has_failed_here, medium_of, version_of, AllFails};
-ghost use Rattle.cfb_meaning.specs.TreeRules.{entry, exists, is_storage, is_stream, read_root_storage, read_storage, root_entry, tree_step, walk, walk_storage, yes};
+ghost use Rattle.cfb_spec.specs.TreeRules.{entry, exists, is_storage, is_stream, read_root_storage, read_storage, root_entry, tree_step, walk, walk_storage, yes};
 ghost use Rattle.cfb_medium.specs.declared.error.Error.TheVariants.{Failed};
 ghost use Rattle.cfb_mini.specs.Views.{allocator_of, directory_of};
-ghost use Rattle.cfb_tree.specs.LetterViews.{letters_of};
+ghost use Rattle.cfb_tree.specs.CaseTableViews.{case_table_of};
 ghost use Rattle.cfb_tree.specs.Tree.{Tree};
 ghost use Rattle.std.specs.Prelude.{true, IfErr, IsErrOf, ◌≡◌, ◌⊎◌};
 
@@ -15,7 +15,7 @@ use cfb_entries::{Entries, Entry, children_at, entry_at, is_stream_at, walk_at};
 use cfb_medium::{Error, Medium, ReadMedium, Version};
 use cfb_mini::MiniAllocator;
 use cfb_sectors::{HasSectors, Validation};
-use cfb_streams::{ReadAhead, StreamLinks};
+use cfb_stream_reads::{ReadAhead, StreamLinks};
 use cfb_tree::{CaseMapper, DirEntry};
 use std::alloc::Global;
 
@@ -32,9 +32,9 @@ pub struct CompoundFile<F: ReadMedium> {
 }
 
 impl<F: ReadMedium> CompoundFile<F> {
-    ghost use Rattle.cfb.specs.Putting.{IsRefusedOpening};
-    ghost use Rattle.cfb.specs.Streams.{IsWant};
-    ghost use Rattle.cfb.specs.Views.{letters_in, mini_of, said_at, sound_of, IsLive, FileShows};
+    ghost use Rattle.cfb.specs.Putting.{IsOpenStreamError};
+    ghost use Rattle.cfb.specs.Streams.{IsFileMemoryOrFailed};
+    ghost use Rattle.cfb.specs.Views.{file_case_table, mini_of, said_at, sound_of, IsLive, FileShowsTree};
 
     /// The version.
     pub fn version(&self) -> Version
@@ -70,7 +70,7 @@ impl<F: ReadMedium> CompoundFile<F> {
 
     /// The letter table under which names are compared ([MS-CFB] 2.6.4).
     pub fn letters(&self) -> &CaseMapper
-        ensures { letters_of result.now ≡ letters_in self.now }
+        ensures { case_table_of result.now ≡ file_case_table self.now }
     {
         &self.letters
     }
@@ -92,11 +92,11 @@ impl<F: ReadMedium> CompoundFile<F> {
 
     /// The root. `Failed` after an earlier fault; the one other error is `Memory` ([MS-CFB] 2.6.2).
     pub fn root_entry(&self) -> Result<Entry, Error>
-        ensures told { IsLive self.now → (tree : Tree) → FileShows self.now tree
-            → TellsEntry (tree_step (letters_in self.now) tree root_entry).1 result }
-        ensures failed { has_failed_here (allocator_of (mini_of self.now)) ≡ true
+        ensures answer { IsLive self.now → (tree : Tree) → FileShowsTree self.now tree
+            → TellsEntry (tree_step (file_case_table self.now) tree root_entry).1 result }
+        ensures when_failed { has_failed_here (allocator_of (mini_of self.now)) ≡ true
             → IsErrOf result Failed }
-        ensures cause { IfErr result (λ e. IsWant self.now e ⊎ IsRefusedOpening e) }
+        ensures cause { IfErr result (λ e. IsFileMemoryOrFailed self.now e ⊎ IsOpenStreamError e) }
     {
         if self.is_failed() {
             return Err(Error::Failed);
@@ -107,11 +107,11 @@ impl<F: ReadMedium> CompoundFile<F> {
     /// The object at a path. `Failed` after an earlier fault, before all else; `InvalidInput` where the path leads above the root,
     /// `NotFound` where no object is there. The one other error is `Memory`.
     pub fn entry(&self, path: &str) -> Result<Entry, Error>
-        ensures told { IsLive self.now → (tree : Tree) → FileShows self.now tree → TellsEntry
-            (answer_at (letters_in self.now) tree entry (names_in path.now)) result }
-        ensures failed { has_failed_here (allocator_of (mini_of self.now)) ≡ true
+        ensures answer { IsLive self.now → (tree : Tree) → FileShowsTree self.now tree → TellsEntry
+            (answer_at (file_case_table self.now) tree entry (names_in path.now)) result }
+        ensures when_failed { has_failed_here (allocator_of (mini_of self.now)) ≡ true
             → IsErrOf result Failed }
-        ensures cause { IfErr result (λ e. IsWant self.now e ⊎ IsRefusedOpening e) }
+        ensures cause { IfErr result (λ e. IsFileMemoryOrFailed self.now e ⊎ IsOpenStreamError e) }
     {
         if self.is_failed() {
             return Err(Error::Failed);
@@ -121,8 +121,8 @@ impl<F: ReadMedium> CompoundFile<F> {
 
     /// Whether an object is at a path; above the root none is. It takes no memory.
     pub fn exists(&self, path: &str) -> bool
-        ensures { (tree : Tree) → FileShows self.now tree → yes result
-            ≡ said_at (letters_in self.now) tree exists (names_in path.now) }
+        ensures { (tree : Tree) → FileShowsTree self.now tree → yes result
+            ≡ said_at (file_case_table self.now) tree exists (names_in path.now) }
     {
         let kind = is_stream_at(&self.letters, self.entries(), path);
         kind.is_some()
@@ -130,8 +130,8 @@ impl<F: ReadMedium> CompoundFile<F> {
 
     /// Whether the object at a path is a stream; above the root none is. It takes no memory.
     pub fn is_stream(&self, path: &str) -> bool
-        ensures { (tree : Tree) → FileShows self.now tree → yes result
-            ≡ said_at (letters_in self.now) tree is_stream (names_in path.now) }
+        ensures { (tree : Tree) → FileShowsTree self.now tree → yes result
+            ≡ said_at (file_case_table self.now) tree is_stream (names_in path.now) }
     {
         let kind = is_stream_at(&self.letters, self.entries(), path);
         kind.unwrap_or(false)
@@ -139,8 +139,8 @@ impl<F: ReadMedium> CompoundFile<F> {
 
     /// Whether the object at a path is a storage, as the root is; above the root none is. It takes no memory.
     pub fn is_storage(&self, path: &str) -> bool
-        ensures { (tree : Tree) → FileShows self.now tree → yes result
-            ≡ said_at (letters_in self.now) tree is_storage (names_in path.now) }
+        ensures { (tree : Tree) → FileShowsTree self.now tree → yes result
+            ≡ said_at (file_case_table self.now) tree is_storage (names_in path.now) }
     {
         let kind = is_stream_at(&self.letters, self.entries(), path);
         !kind.unwrap_or(true)
@@ -149,11 +149,12 @@ impl<F: ReadMedium> CompoundFile<F> {
     /// The children of the root, in their order. `Failed` after an earlier fault; the one other error is `Memory`
     /// ([MS-CFB] 2.6.4).
     pub fn read_root_storage(&self) -> Result<Entries, Error>
-        ensures told { IsLive self.now → (tree : Tree) → FileShows self.now tree
-            → TellsEntries (tree_step (letters_in self.now) tree read_root_storage).1 result }
-        ensures failed { has_failed_here (allocator_of (mini_of self.now)) ≡ true
+        ensures answer { IsLive self.now → (tree : Tree) → FileShowsTree self.now tree
+            → ReturnsEntries
+            (tree_step (file_case_table self.now) tree read_root_storage).1 result }
+        ensures when_failed { has_failed_here (allocator_of (mini_of self.now)) ≡ true
             → IsErrOf result Failed }
-        ensures cause { IfErr result (λ e. IsWant self.now e ⊎ IsRefusedOpening e) }
+        ensures cause { IfErr result (λ e. IsFileMemoryOrFailed self.now e ⊎ IsOpenStreamError e) }
     {
         if self.is_failed() {
             return Err(Error::Failed);
@@ -165,11 +166,12 @@ impl<F: ReadMedium> CompoundFile<F> {
     /// where the path leads above the root, `NotFound` where no object is there, `InvalidInput` where it is a stream. The one
     /// other error is `Memory` ([MS-CFB] 2.6.4).
     pub fn read_storage(&self, path: &str) -> Result<Entries, Error>
-        ensures told { IsLive self.now → (tree : Tree) → FileShows self.now tree → TellsEntries
-            (answer_at (letters_in self.now) tree read_storage (names_in path.now)) result }
-        ensures failed { has_failed_here (allocator_of (mini_of self.now)) ≡ true
+        ensures answer { IsLive self.now → (tree : Tree) → FileShowsTree self.now tree
+            → ReturnsEntries
+            (answer_at (file_case_table self.now) tree read_storage (names_in path.now)) result }
+        ensures when_failed { has_failed_here (allocator_of (mini_of self.now)) ≡ true
             → IsErrOf result Failed }
-        ensures cause { IfErr result (λ e. IsWant self.now e ⊎ IsRefusedOpening e) }
+        ensures cause { IfErr result (λ e. IsFileMemoryOrFailed self.now e ⊎ IsOpenStreamError e) }
     {
         if self.is_failed() {
             return Err(Error::Failed);
@@ -180,11 +182,11 @@ impl<F: ReadMedium> CompoundFile<F> {
     /// The root and all objects in it, each storage before what it holds. `Failed` after an earlier fault; the one other error is
     /// `Memory`.
     pub fn walk(&self) -> Result<Entries, Error>
-        ensures told { IsLive self.now → (tree : Tree) → FileShows self.now tree
-            → TellsEntries (tree_step (letters_in self.now) tree walk).1 result }
-        ensures failed { has_failed_here (allocator_of (mini_of self.now)) ≡ true
+        ensures answer { IsLive self.now → (tree : Tree) → FileShowsTree self.now tree
+            → ReturnsEntries (tree_step (file_case_table self.now) tree walk).1 result }
+        ensures when_failed { has_failed_here (allocator_of (mini_of self.now)) ≡ true
             → IsErrOf result Failed }
-        ensures cause { IfErr result (λ e. IsWant self.now e ⊎ IsRefusedOpening e) }
+        ensures cause { IfErr result (λ e. IsFileMemoryOrFailed self.now e ⊎ IsOpenStreamError e) }
     {
         if self.is_failed() {
             return Err(Error::Failed);
@@ -196,11 +198,12 @@ impl<F: ReadMedium> CompoundFile<F> {
     /// else; `InvalidInput` where the path leads above the root, `NotFound` where no object is there, `InvalidInput` where it is a
     /// stream. The one other error is `Memory`.
     pub fn walk_storage(&self, path: &str) -> Result<Entries, Error>
-        ensures told { IsLive self.now → (tree : Tree) → FileShows self.now tree → TellsEntries
-            (answer_at (letters_in self.now) tree walk_storage (names_in path.now)) result }
-        ensures failed { has_failed_here (allocator_of (mini_of self.now)) ≡ true
+        ensures answer { IsLive self.now → (tree : Tree) → FileShowsTree self.now tree
+            → ReturnsEntries
+            (answer_at (file_case_table self.now) tree walk_storage (names_in path.now)) result }
+        ensures when_failed { has_failed_here (allocator_of (mini_of self.now)) ≡ true
             → IsErrOf result Failed }
-        ensures cause { IfErr result (λ e. IsWant self.now e ⊎ IsRefusedOpening e) }
+        ensures cause { IfErr result (λ e. IsFileMemoryOrFailed self.now e ⊎ IsOpenStreamError e) }
     {
         if self.is_failed() {
             return Err(Error::Failed);
@@ -210,14 +213,14 @@ impl<F: ReadMedium> CompoundFile<F> {
 }
 
 impl<F: Medium> CompoundFile<F> {
-    ghost use Rattle.cfb.specs.Views.{letters_in, mini_of, most_ahead_of, sound_of, validation_of};
+    ghost use Rattle.cfb.specs.Views.{file_case_table, mini_of, most_ahead_of, sound_of, validation_of};
 
     /// Leaves it in a state in which every call is refused, as a fault in a write does: for a layer above, where what it changes by
     /// several calls has come half way. `roll_back` leads out of it.
     pub fn fail(&mut self)
         ensures fails { AllFails (allocator_of (mini_of self.old))
             (allocator_of (mini_of self.new)) }
-        ensures seen { (letters_in self.new ≡ letters_in self.old)
+        ensures seen { (file_case_table self.new ≡ file_case_table self.old)
             × (sound_of self.new ≡ sound_of self.old)
             × (validation_of self.new ≡ validation_of self.old) }
         ensures most { most_ahead_of self.new ≡ most_ahead_of self.old }

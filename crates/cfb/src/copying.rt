@@ -1,8 +1,8 @@
 //! Files that are copied to another medium.
-ghost use Rattle.cfb_copying.specs.Chains.{IsCopyFault};
-ghost use Rattle.cfb_fat.specs.Tables.{has_failed_here, HasCauseBelow};
-ghost use Rattle.cfb_live.specs.Doing.{IsFault};
-ghost use Rattle.cfb_medium.specs.Calls.{Extends, HasCauseSince};
+ghost use Rattle.cfb_copying.specs.Chains.{IsCopyError};
+ghost use Rattle.cfb_fat.specs.Tables.{has_failed_here, IsJustifiedBySectors};
+ghost use Rattle.cfb_tree_edits.specs.LiveTreeRules.{IsFaultOrFull};
+ghost use Rattle.cfb_medium.specs.Calls.{Reaches, IsJustifiedSince};
 ghost use Rattle.cfb_medium.specs.declared.error.Error.TheVariants.{Failed, Full, InvalidData};
 ghost use Rattle.cfb_mini.specs.Views.{allocator_of};
 ghost use Rattle.cfb_tree.specs.Tree.{Tree};
@@ -14,8 +14,8 @@ use cfb_medium::{Error, Medium, ReadMedium};
 use cfb_sectors::HasSectors;
 
 impl<F: ReadMedium> CompoundFile<F> {
-    ghost use Rattle.cfb.specs.Doing.{CopiesFile, FileMeans};
-    ghost use Rattle.cfb.specs.Views.{mini_of, sound_of, FileRests};
+    ghost use Rattle.cfb.specs.FollowedRules.{CopiesFile, FileMeansTree};
+    ghost use Rattle.cfb.specs.Views.{mini_of, sound_of, OnlyReadsFile};
 
     /// Copies the file to an empty medium: there is then a file of the same version that means the same tree, is sound, and has no
     /// sector that serves no use; what the file holds in sectors and mini sectors of streams is copied whole. Root and entries of the
@@ -29,22 +29,23 @@ impl<F: ReadMedium> CompoundFile<F> {
     pub fn copy_to<T: Medium>(&mut self, target: &mut T) -> Result<(), Error>
         requires { IsTrue (T.honest target.old) → T.bytes target.old ≡ [] }
         ensures copied { OnOk result (IsTrue (T.honest target.old) → (tree : Tree)
-            → FileMeans self.old tree → CopiesFile self.old tree (T.bytes target.new)) }
-        ensures refused { IfErr result (λ e. (tree : Tree) → FileMeans self.old tree → IsFault e) }
-        ensures numbered { IsErrOf result Full → (tree : Tree) → FileMeans self.old tree → ⊥ }
-        ensures failed { has_failed_here (allocator_of (mini_of self.old)) ≡ true
+            → FileMeansTree self.old tree → CopiesFile self.old tree (T.bytes target.new)) }
+        ensures refused_only_if { IfErr result
+            (λ e. (tree : Tree) → FileMeansTree self.old tree → IsFaultOrFull e) }
+        ensures numbered { IsErrOf result Full → (tree : Tree) → FileMeansTree self.old tree → ⊥ }
+        ensures when_failed { has_failed_here (allocator_of (mini_of self.old)) ≡ true
             → IsErrOf result Failed }
         ensures unsound { has_failed_here (allocator_of (mini_of self.old)) ≡ false
             → sound_of self.old ≡ false → IsErrOf result InvalidData }
-        ensures rests { FileRests self.old self.new }
+        ensures only_reads { OnlyReadsFile self.old self.new }
         ensures unwritten { IsTrue (T.honest target.old)
             → OnErr result (T.bytes target.new ≡ T.bytes target.old) }
         ensures honest { T.honest target.new ≡ T.honest target.old }
-        ensures continues { Extends T.continues target.old target.new }
-        ensures cause { IfErr result (λ e. HasCauseBelow (allocator_of (mini_of self.old))
-            (allocator_of (mini_of self.new)) e ⊎ HasCauseSince T.continues T.failures T.failed
+        ensures continues { Reaches T.continues target.old target.new }
+        ensures cause { IfErr result (λ e. IsJustifiedBySectors (allocator_of (mini_of self.old))
+            (allocator_of (mini_of self.new)) e ⊎ IsJustifiedSince T.continues T.failures T.failed
             target.old target.new e) }
-        ensures fault { IfErr result IsCopyFault }
+        ensures errors { IfErr result IsCopyError }
     {
         if self.mini.directory().allocator().is_failed() {
             return Err(Error::Failed);

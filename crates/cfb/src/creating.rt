@@ -1,9 +1,9 @@
 //! New files.
-ghost use Rattle.cfb.specs.Creating.{IsCreated, IsCreateFault, LeavesNew};
+ghost use Rattle.cfb.specs.Creating.{IsCreated, IsCreateFileError, LeavesNew};
 ghost use Rattle.cfb.specs.Views.{most_ahead_of};
-ghost use Rattle.cfb_medium.specs.Calls.{HasCauseSince};
+ghost use Rattle.cfb_medium.specs.Calls.{IsJustifiedSince};
 ghost use Rattle.cfb_medium.specs.declared.version.Version.TheVariants.{V4};
-ghost use Rattle.cfb_tree.specs.LetterViews.{letters_of};
+ghost use Rattle.cfb_tree.specs.CaseTableViews.{case_table_of};
 ghost use Rattle.std.specs.Prelude.{max, IfErr, IfOk, ◌≡◌};
 
 use crate::CompoundFile;
@@ -24,11 +24,11 @@ impl<F: Medium> CompoundFile<F> {
         medium: F,
         letters: CaseMapper,
     ) -> Result<CompoundFile<F>, (F, Error)>
-        ensures created { IfOk result (IsCreated V4 (letters_of letters) medium) }
+        ensures created { IfOk result (IsCreated V4 (case_table_of letters) medium) }
         ensures most { IfOk result (λ it. most_ahead_of it ≡ 65536) }
         ensures left { IfErr result (λ e. LeavesNew F.honest F.bytes F.continues V4 medium e.0) }
-        ensures fault { IfErr result (λ e. IsCreateFault F.honest medium e.1) }
-        ensures cause { IfErr result (λ e. HasCauseSince F.continues F.failures F.failed medium
+        ensures errors { IfErr result (λ e. IsCreateFileError F.honest medium e.1) }
+        ensures cause { IfErr result (λ e. IsJustifiedSince F.continues F.failures F.failed medium
             e.0 e.1) }
     {
         create_as(alloc, medium, Version::V4, letters, BUFFER)
@@ -41,12 +41,12 @@ impl<F: Medium> CompoundFile<F> {
         medium: F,
         letters: CaseMapper,
     ) -> Result<CompoundFile<F>, (F, Error)>
-        ensures created { IfOk result (IsCreated version (letters_of letters) medium) }
+        ensures created { IfOk result (IsCreated version (case_table_of letters) medium) }
         ensures most { IfOk result (λ it. most_ahead_of it ≡ 65536) }
         ensures left { IfErr result (λ e.
             LeavesNew F.honest F.bytes F.continues version medium e.0) }
-        ensures fault { IfErr result (λ e. IsCreateFault F.honest medium e.1) }
-        ensures cause { IfErr result (λ e. HasCauseSince F.continues F.failures F.failed medium
+        ensures errors { IfErr result (λ e. IsCreateFileError F.honest medium e.1) }
+        ensures cause { IfErr result (λ e. IsJustifiedSince F.continues F.failures F.failed medium
             e.0 e.1) }
     {
         create_as(alloc, medium, version, letters, BUFFER)
@@ -61,11 +61,11 @@ pub(crate) fn create_as<F: Medium>(
     letters: CaseMapper,
     limit: usize,
 ) -> Result<CompoundFile<F>, (F, Error)>
-    ensures created { IfOk result (IsCreated version (letters_of letters) medium) }
+    ensures created { IfOk result (IsCreated version (case_table_of letters) medium) }
     ensures most { IfOk result (λ it. most_ahead_of it ≡ max limit 1024) }
     ensures left { IfErr result (λ e. LeavesNew F.honest F.bytes F.continues version medium e.0) }
-    ensures fault { IfErr result (λ e. IsCreateFault F.honest medium e.1) }
-    ensures cause { IfErr result (λ e. HasCauseSince F.continues F.failures F.failed medium
+    ensures errors { IfErr result (λ e. IsCreateFileError F.honest medium e.1) }
+    ensures cause { IfErr result (λ e. IsJustifiedSince F.continues F.failures F.failed medium
         e.0 e.1) }
 {
     match write_new_file(alloc, &mut medium, version) {

@@ -1,7 +1,7 @@
 //! Files on disk, by their paths.
-ghost use Rattle.cfb.specs.OptionViews.{letters_asked, most_asked, IsReadAsAsked};
-ghost use Rattle.cfb.specs.Paths.{ComparesAsAscii, IsMadeOnDisk, IsOpenedOnDisk, IsPathRefusal};
-ghost use Rattle.cfb.specs.Views.{letters_in, mini_of, most_ahead_of, validation_of};
+ghost use Rattle.cfb.specs.OptionViews.{case_table_asked, most_asked, IsReadAsAsked};
+ghost use Rattle.cfb.specs.Paths.{ComparesAsAscii, IsMadeOnDisk, IsOpenedOnDisk, IsFileOpenError};
+ghost use Rattle.cfb.specs.Views.{file_case_table, mini_of, most_ahead_of, validation_of};
 ghost use Rattle.cfb_opening.specs.Opened.{OpensAt};
 ghost use Rattle.cfb_sectors.specs.declared.validation.Validation.TheVariants.{Permissive};
 ghost use Rattle.std.specs.Prelude.{IfErr, IfOk, ◌≡◌};
@@ -25,7 +25,7 @@ impl OpenOptions {
     ) -> Result<CompoundFile<FileMedium>, Error>
         ensures asked { IfOk result (IsReadAsAsked self) }
         ensures opened { IfOk result IsOpenedOnDisk }
-        ensures error { IfErr result IsPathRefusal }
+        ensures errors { IfErr result IsFileOpenError }
     {
         match FileMedium::open(rt, path) {
             Ok(medium) => self.open_medium(alloc, medium),
@@ -43,7 +43,7 @@ impl OpenOptions {
     ) -> Result<CompoundFile<FileMedium>, Error>
         ensures asked { IfOk result (IsReadAsAsked self) }
         ensures opened { IfOk result IsOpenedOnDisk }
-        ensures error { IfErr result IsPathRefusal }
+        ensures errors { IfErr result IsFileOpenError }
     {
         match FileMedium::open_rw(rt, path) {
             Ok(medium) => self.open_medium(alloc, medium),
@@ -60,9 +60,9 @@ impl OpenOptions {
         alloc: Global,
         path: &str,
     ) -> Result<CompoundFile<FileMedium>, Error>
-        ensures made { IfOk result (IsMadeOnDisk (letters_asked self)) }
+        ensures made { IfOk result (IsMadeOnDisk (case_table_asked self)) }
         ensures most { IfOk result (λ it. most_ahead_of it ≡ most_asked self) }
-        ensures error { IfErr result IsPathRefusal }
+        ensures errors { IfErr result IsFileOpenError }
     {
         let medium = match FileMedium::create(rt, path) {
             Ok(medium) => medium,
@@ -82,7 +82,7 @@ impl OpenOptions {
     ) -> Result<CompoundFile<FileMedium>, Error>
         ensures asked { IfOk result (IsReadAsAsked self) }
         ensures opens { IfOk result (λ it. OpensAt medium (mini_of it)) }
-        ensures error { IfErr result IsPathRefusal }
+        ensures errors { IfErr result IsFileOpenError }
     {
         match self.open_with(alloc, medium) {
             Ok(file) => Ok(file),
@@ -98,11 +98,11 @@ pub fn open<R: Files<File = File>>(
     alloc: Global,
     path: &str,
 ) -> Result<CompoundFile<FileMedium>, Error>
-    ensures letters { IfOk result (λ it. ComparesAsAscii (letters_in it)) }
+    ensures letters { IfOk result (λ it. ComparesAsAscii (file_case_table it)) }
     ensures lenient { IfOk result (λ it. validation_of it ≡ Permissive) }
     ensures most { IfOk result (λ it. most_ahead_of it ≡ 65536) }
     ensures opened { IfOk result IsOpenedOnDisk }
-    ensures error { IfErr result IsPathRefusal }
+    ensures errors { IfErr result IsFileOpenError }
 {
     match OpenOptions::new(alloc) {
         Ok(options) => options.open(rt, alloc, path),
@@ -117,11 +117,11 @@ pub fn open_rw<R: Files<File = File>>(
     alloc: Global,
     path: &str,
 ) -> Result<CompoundFile<FileMedium>, Error>
-    ensures letters { IfOk result (λ it. ComparesAsAscii (letters_in it)) }
+    ensures letters { IfOk result (λ it. ComparesAsAscii (file_case_table it)) }
     ensures lenient { IfOk result (λ it. validation_of it ≡ Permissive) }
     ensures most { IfOk result (λ it. most_ahead_of it ≡ 65536) }
     ensures opened { IfOk result IsOpenedOnDisk }
-    ensures error { IfErr result IsPathRefusal }
+    ensures errors { IfErr result IsFileOpenError }
 {
     match OpenOptions::new(alloc) {
         Ok(options) => options.open_rw(rt, alloc, path),
@@ -136,10 +136,10 @@ pub fn create<R: Files<File = File>>(
     alloc: Global,
     path: &str,
 ) -> Result<CompoundFile<FileMedium>, Error>
-    ensures letters { IfOk result (λ it. ComparesAsAscii (letters_in it)) }
-    ensures made { IfOk result (λ it. IsMadeOnDisk (letters_in it) it) }
+    ensures letters { IfOk result (λ it. ComparesAsAscii (file_case_table it)) }
+    ensures made { IfOk result (λ it. IsMadeOnDisk (file_case_table it) it) }
     ensures most { IfOk result (λ it. most_ahead_of it ≡ 65536) }
-    ensures error { IfErr result IsPathRefusal }
+    ensures errors { IfErr result IsFileOpenError }
 {
     match OpenOptions::new(alloc) {
         Ok(options) => options.create(rt, alloc, path),

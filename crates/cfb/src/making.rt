@@ -1,34 +1,36 @@
 //! New objects of a file, by their paths.
 ghost use Rattle.cfb_directory.specs.Growth.{LacksEntries};
 ghost use Rattle.cfb_entries.specs.Rules.{names_in};
-ghost use Rattle.cfb_fat.specs.Calls.{FatAnswers};
+ghost use Rattle.cfb_fat.specs.Calls.{FatErrorContract};
 ghost use Rattle.cfb_fat.specs.Tables.{has_failed_here};
-ghost use Rattle.cfb_live.specs.Making.{making, IsRefusedMade};
-ghost use Rattle.cfb_meaning.specs.TreeRules.{create_new_stream, create_storage, create_storage_all};
+ghost use Rattle.cfb_tree_edits.specs.Making.{making, IsMakeObjectError};
+ghost use Rattle.cfb_spec.specs.TreeRules.{create_new_stream, create_storage, create_storage_all};
 ghost use Rattle.cfb_medium.specs.Times.{units_of};
 ghost use Rattle.cfb_medium.specs.declared.error.Error.TheVariants.{Full};
 ghost use Rattle.cfb_mini.specs.Views.{allocator_of, directory_of};
-ghost use Rattle.cfb_owned.specs.Chains.{GoesOn};
+ghost use Rattle.cfb_chain_io.specs.ChainEffects.{KeepsFileInvariants};
 ghost use Rattle.std.specs.Prelude.{false, IsErrOf, ◌≡◌};
 
 use crate::CompoundFile;
-use cfb_live::{NewObject, make_object};
 use cfb_medium::{Error, Medium, Timestamp};
 use cfb_sectors::HasSectors;
+use cfb_tree_edits::{NewObject, make_object};
 
 impl<F: Medium> CompoundFile<F> {
-    ghost use Rattle.cfb.specs.Doing.{Does};
+    ghost use Rattle.cfb.specs.FollowedRules.{FollowsTreeRules};
     ghost use Rattle.cfb.specs.Views.{mini_of};
 
     // Makes an object at a path where none is.
     fn make(&mut self, path: &str, object: NewObject) -> Result<(), Error>
-        ensures does { Does (names_in path.now) (making object) result self.old self.new }
-        ensures full { IsErrOf result Full
+        ensures tree_rule { FollowsTreeRules (names_in path.now)
+            (making object) result self.old self.new }
+        ensures full_only_if { IsErrOf result Full
             → has_failed_here (allocator_of (mini_of self.new)) ≡ false
             → LacksEntries (directory_of (mini_of self.old)) }
-        ensures goes_on { GoesOn (allocator_of (mini_of self.old))
+        ensures invariants { KeepsFileInvariants (allocator_of (mini_of self.old))
             (allocator_of (mini_of self.new)) }
-        ensures answers { FatAnswers IsRefusedMade result (allocator_of (mini_of self.old))
+        ensures error_contract { FatErrorContract IsMakeObjectError result
+            (allocator_of (mini_of self.old))
             (allocator_of (mini_of self.new)) }
     {
         if self.mini.directory().allocator().is_failed() {
@@ -46,14 +48,16 @@ impl<F: Medium> CompoundFile<F> {
     /// invalid. `Full` where numbers of entries or sectors are missing. The other errors are `Memory` and `Device`. After an
     /// error nothing is changed, or the file has failed ([MS-CFB] 2.6.2).
     pub fn create_storage(&mut self, path: &str, moment: Timestamp) -> Result<(), Error>
-        ensures does { Does (names_in path.now) (λ names. create_storage names (units_of moment))
+        ensures tree_rule { FollowsTreeRules (names_in path.now)
+            (λ names. create_storage names (units_of moment))
             result self.old self.new }
-        ensures full { IsErrOf result Full
+        ensures full_only_if { IsErrOf result Full
             → has_failed_here (allocator_of (mini_of self.new)) ≡ false
             → LacksEntries (directory_of (mini_of self.old)) }
-        ensures goes_on { GoesOn (allocator_of (mini_of self.old))
+        ensures invariants { KeepsFileInvariants (allocator_of (mini_of self.old))
             (allocator_of (mini_of self.new)) }
-        ensures answers { FatAnswers IsRefusedMade result (allocator_of (mini_of self.old))
+        ensures error_contract { FatErrorContract IsMakeObjectError result
+            (allocator_of (mini_of self.old))
             (allocator_of (mini_of self.new)) }
     {
         self.make(path, NewObject::Storage(moment))
@@ -61,14 +65,16 @@ impl<F: Medium> CompoundFile<F> {
 
     /// Makes a stream at a path, without bytes. Errors are those of `create_storage` ([MS-CFB] 2.6.3).
     pub fn create_new_stream(&mut self, path: &str) -> Result<(), Error>
-        ensures does { Does (names_in path.now) (λ names. create_new_stream names) result self.old
+        ensures tree_rule { FollowsTreeRules (names_in path.now)
+            (λ names. create_new_stream names) result self.old
             self.new }
-        ensures full { IsErrOf result Full
+        ensures full_only_if { IsErrOf result Full
             → has_failed_here (allocator_of (mini_of self.new)) ≡ false
             → LacksEntries (directory_of (mini_of self.old)) }
-        ensures goes_on { GoesOn (allocator_of (mini_of self.old))
+        ensures invariants { KeepsFileInvariants (allocator_of (mini_of self.old))
             (allocator_of (mini_of self.new)) }
-        ensures answers { FatAnswers IsRefusedMade result (allocator_of (mini_of self.old))
+        ensures error_contract { FatErrorContract IsMakeObjectError result
+            (allocator_of (mini_of self.old))
             (allocator_of (mini_of self.new)) }
     {
         self.make(path, NewObject::Stream)
@@ -81,14 +87,15 @@ impl<F: Medium> CompoundFile<F> {
     /// other errors are `Memory` and `Device`. After the first change each error leaves the file failed, and before it nothing is
     /// changed, or the file has failed. It goes down the path once ([MS-CFB] 2.6.2).
     pub fn create_storage_all(&mut self, path: &str, moment: Timestamp) -> Result<(), Error>
-        ensures does { Does (names_in path.now)
+        ensures tree_rule { FollowsTreeRules (names_in path.now)
             (λ names. create_storage_all names (units_of moment)) result self.old self.new }
-        ensures full { IsErrOf result Full
+        ensures full_only_if { IsErrOf result Full
             → has_failed_here (allocator_of (mini_of self.new)) ≡ false
             → LacksEntries (directory_of (mini_of self.old)) }
-        ensures goes_on { GoesOn (allocator_of (mini_of self.old))
+        ensures invariants { KeepsFileInvariants (allocator_of (mini_of self.old))
             (allocator_of (mini_of self.new)) }
-        ensures answers { FatAnswers IsRefusedMade result (allocator_of (mini_of self.old))
+        ensures error_contract { FatErrorContract IsMakeObjectError result
+            (allocator_of (mini_of self.old))
             (allocator_of (mini_of self.new)) }
     {
         if self.mini.directory().allocator().is_failed() {
@@ -97,6 +104,6 @@ impl<F: Medium> CompoundFile<F> {
         if !self.is_sound() {
             return Err(Error::InvalidData);
         }
-        cfb_live::create_storage_all(self.alloc, &mut self.mini, &self.letters, path, moment)
+        cfb_tree_edits::create_storage_all(self.alloc, &mut self.mini, &self.letters, path, moment)
     }
 }

@@ -1,14 +1,14 @@
 //! Opening a compound file.
 ghost use Rattle.cfb.specs.Opened.{IsOpenedAs};
 ghost use Rattle.cfb.specs.Readers.{letters_by, validation_by, IsReadBy, IsSameReader};
-ghost use Rattle.cfb.specs.Views.{letters_in, mini_of, most_ahead_of, validation_of};
-ghost use Rattle.cfb_meaning.specs.Means.{IsOpenable, IsStrictlyOpenable};
-ghost use Rattle.cfb_medium.specs.Calls.{HasCauseSince, IsFaultUnless};
+ghost use Rattle.cfb.specs.Views.{file_case_table, mini_of, most_ahead_of, validation_of};
+ghost use Rattle.cfb_spec.specs.Means.{IsOpenable, IsStrictlyOpenable};
+ghost use Rattle.cfb_medium.specs.Calls.{IsJustifiedSince, IsFaultOrInvalidInputIf};
 ghost use Rattle.cfb_medium.specs.declared.error.Error.TheVariants.{InvalidData};
 ghost use Rattle.cfb_opening.specs.Opened.{CanOpen, OpensAt};
-ghost use Rattle.cfb_opening.specs.Tables.{OnlyReads};
+ghost use Rattle.cfb_opening.specs.Tables.{OnlyReadsMedium};
 ghost use Rattle.cfb_sectors.specs.declared.validation.Validation.TheVariants.{Permissive, Strict};
-ghost use Rattle.cfb_tree.specs.LetterViews.{letters_of};
+ghost use Rattle.cfb_tree.specs.CaseTableViews.{case_table_of};
 ghost use Rattle.std.specs.Prelude.{max, IfErr, IfOk, IsTrue, ◌≡◌, ◌⊎◌};
 
 use crate::CompoundFile;
@@ -17,7 +17,7 @@ use cfb_mini::MiniLinks;
 use cfb_opening::open_file;
 use cfb_sectors::Validation;
 use cfb_soundness::is_sound;
-use cfb_streams::{ReadAhead, StreamLinks};
+use cfb_stream_reads::{ReadAhead, StreamLinks};
 use cfb_tree::CaseMapper;
 use std::alloc::Global;
 
@@ -35,17 +35,17 @@ impl<F: ReadMedium> CompoundFile<F> {
         letters: CaseMapper,
     ) -> Result<CompoundFile<F>, (F, Error)>
         ensures opens { IfOk result (λ it. OpensAt medium (mini_of it)) }
-        ensures letters { IfOk result (λ it. letters_in it ≡ letters_of letters) }
+        ensures letters { IfOk result (λ it. file_case_table it ≡ case_table_of letters) }
         ensures most { IfOk result (λ it. most_ahead_of it ≡ 65536) }
         ensures reader { IfOk result (λ it. validation_of it ≡ Permissive) }
         ensures opened { IfOk result (λ it. IsTrue (F.honest medium)
-            → IsOpenedAs Permissive (letters_of letters) (F.bytes medium) it) }
-        ensures refused { IfErr result (λ e. e.1 ≡ InvalidData → IsTrue (F.honest medium)
-            → IsOpenable (letters_of letters) (F.bytes medium) → ⊥) }
-        ensures fault { IfErr result (λ e. IsFaultUnless ⊥ e.1 ⊎ (e.1 ≡ InvalidData)) }
-        ensures cause { IfErr result (λ e. HasCauseSince F.continues F.failures F.failed medium
+            → IsOpenedAs Permissive (case_table_of letters) (F.bytes medium) it) }
+        ensures refused_only_if { IfErr result (λ e. e.1 ≡ InvalidData → IsTrue (F.honest medium)
+            → IsOpenable (case_table_of letters) (F.bytes medium) → ⊥) }
+        ensures errors { IfErr result (λ e. IsFaultOrInvalidInputIf ⊥ e.1 ⊎ (e.1 ≡ InvalidData)) }
+        ensures cause { IfErr result (λ e. IsJustifiedSince F.continues F.failures F.failed medium
             e.0 e.1) }
-        ensures left { IfErr result (λ e. OnlyReads F.honest F.bytes F.continues medium e.0) }
+        ensures left { IfErr result (λ e. OnlyReadsMedium F.honest F.bytes F.continues medium e.0) }
     {
         open_as(alloc, medium, letters, Validation::Permissive, BUFFER)
     }
@@ -59,17 +59,17 @@ impl<F: ReadMedium> CompoundFile<F> {
         letters: CaseMapper,
     ) -> Result<CompoundFile<F>, (F, Error)>
         ensures opens { IfOk result (λ it. OpensAt medium (mini_of it)) }
-        ensures letters { IfOk result (λ it. letters_in it ≡ letters_of letters) }
+        ensures letters { IfOk result (λ it. file_case_table it ≡ case_table_of letters) }
         ensures most { IfOk result (λ it. most_ahead_of it ≡ 65536) }
         ensures reader { IfOk result (λ it. validation_of it ≡ Strict) }
         ensures opened { IfOk result (λ it. IsTrue (F.honest medium)
-            → IsOpenedAs Strict (letters_of letters) (F.bytes medium) it) }
-        ensures refused { IfErr result (λ e. e.1 ≡ InvalidData → IsTrue (F.honest medium)
-            → IsStrictlyOpenable (letters_of letters) (F.bytes medium) → ⊥) }
-        ensures fault { IfErr result (λ e. IsFaultUnless ⊥ e.1 ⊎ (e.1 ≡ InvalidData)) }
-        ensures cause { IfErr result (λ e. HasCauseSince F.continues F.failures F.failed medium
+            → IsOpenedAs Strict (case_table_of letters) (F.bytes medium) it) }
+        ensures refused_only_if { IfErr result (λ e. e.1 ≡ InvalidData → IsTrue (F.honest medium)
+            → IsStrictlyOpenable (case_table_of letters) (F.bytes medium) → ⊥) }
+        ensures errors { IfErr result (λ e. IsFaultOrInvalidInputIf ⊥ e.1 ⊎ (e.1 ≡ InvalidData)) }
+        ensures cause { IfErr result (λ e. IsJustifiedSince F.continues F.failures F.failed medium
             e.0 e.1) }
-        ensures left { IfErr result (λ e. OnlyReads F.honest F.bytes F.continues medium e.0) }
+        ensures left { IfErr result (λ e. OnlyReadsMedium F.honest F.bytes F.continues medium e.0) }
     {
         open_as(alloc, medium, letters, Validation::Strict, BUFFER)
     }
@@ -93,13 +93,13 @@ pub(crate) fn open_by<F: ReadMedium>(
     ensures reader { IfOk result (IsReadBy reader) }
     ensures opened { IfOk result (λ it. IsTrue (F.honest medium)
         → IsOpenedAs (validation_by reader) (letters_by reader) (F.bytes medium) it) }
-    ensures refused { IfErr result (λ e. e.2 ≡ InvalidData → IsTrue (F.honest medium)
+    ensures refused_only_if { IfErr result (λ e. e.2 ≡ InvalidData → IsTrue (F.honest medium)
         → CanOpen (validation_by reader) (letters_by reader) (F.bytes medium) → ⊥) }
     ensures same { IfErr result (λ e. IsSameReader reader e.1) }
-    ensures fault { IfErr result (λ e. IsFaultUnless ⊥ e.2 ⊎ (e.2 ≡ InvalidData)) }
-    ensures cause { IfErr result (λ e. HasCauseSince F.continues F.failures F.failed medium
+    ensures errors { IfErr result (λ e. IsFaultOrInvalidInputIf ⊥ e.2 ⊎ (e.2 ≡ InvalidData)) }
+    ensures cause { IfErr result (λ e. IsJustifiedSince F.continues F.failures F.failed medium
         e.0 e.2) }
-    ensures left { IfErr result (λ e. OnlyReads F.honest F.bytes F.continues medium e.0) }
+    ensures left { IfErr result (λ e. OnlyReadsMedium F.honest F.bytes F.continues medium e.0) }
 {
     let len = match medium.len() {
         Ok(len) => len,
@@ -138,17 +138,17 @@ pub(crate) fn open_as<F: ReadMedium>(
     limit: usize,
 ) -> Result<CompoundFile<F>, (F, Error)>
     ensures opens { IfOk result (λ it. OpensAt medium (mini_of it)) }
-    ensures letters { IfOk result (λ it. letters_in it ≡ letters_of letters) }
+    ensures letters { IfOk result (λ it. file_case_table it ≡ case_table_of letters) }
     ensures validation { IfOk result (λ it. validation_of it ≡ validation) }
     ensures most { IfOk result (λ it. most_ahead_of it ≡ max limit 1024) }
     ensures opened { IfOk result (λ it. IsTrue (F.honest medium)
-        → IsOpenedAs validation (letters_of letters) (F.bytes medium) it) }
-    ensures refused { IfErr result (λ e. e.1 ≡ InvalidData → IsTrue (F.honest medium)
-        → CanOpen validation (letters_of letters) (F.bytes medium) → ⊥) }
-    ensures fault { IfErr result (λ e. IsFaultUnless ⊥ e.1 ⊎ (e.1 ≡ InvalidData)) }
-    ensures cause { IfErr result (λ e. HasCauseSince F.continues F.failures F.failed medium
+        → IsOpenedAs validation (case_table_of letters) (F.bytes medium) it) }
+    ensures refused_only_if { IfErr result (λ e. e.1 ≡ InvalidData → IsTrue (F.honest medium)
+        → CanOpen validation (case_table_of letters) (F.bytes medium) → ⊥) }
+    ensures errors { IfErr result (λ e. IsFaultOrInvalidInputIf ⊥ e.1 ⊎ (e.1 ≡ InvalidData)) }
+    ensures cause { IfErr result (λ e. IsJustifiedSince F.continues F.failures F.failed medium
         e.0 e.1) }
-    ensures left { IfErr result (λ e. OnlyReads F.honest F.bytes F.continues medium e.0) }
+    ensures left { IfErr result (λ e. OnlyReadsMedium F.honest F.bytes F.continues medium e.0) }
 {
     let reader = Reader {
         letters,

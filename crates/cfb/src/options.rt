@@ -1,14 +1,14 @@
 //! How a file is opened.
-ghost use Rattle.cfb.specs.Creating.{IsCreated, IsCreateFault, LeavesNew};
+ghost use Rattle.cfb.specs.Creating.{IsCreated, IsCreateFileError, LeavesNew};
 ghost use Rattle.cfb.specs.Opened.{IsOpenedAs};
-ghost use Rattle.cfb.specs.Views.{letters_in, mini_of, most_ahead_of, validation_of};
-ghost use Rattle.cfb_medium.specs.Calls.{HasCauseSince, IsFaultUnless};
+ghost use Rattle.cfb.specs.Views.{file_case_table, mini_of, most_ahead_of, validation_of};
+ghost use Rattle.cfb_medium.specs.Calls.{IsJustifiedSince, IsFaultOrInvalidInputIf};
 ghost use Rattle.cfb_medium.specs.declared.error.Error.TheVariants.{InvalidData, Memory};
 ghost use Rattle.cfb_medium.specs.declared.version.Version.TheVariants.{V4};
 ghost use Rattle.cfb_opening.specs.Opened.{CanOpen, OpensAt};
-ghost use Rattle.cfb_opening.specs.Tables.{OnlyReads};
+ghost use Rattle.cfb_opening.specs.Tables.{OnlyReadsMedium};
 ghost use Rattle.cfb_sectors.specs.declared.validation.Validation.TheVariants.{Permissive, Strict};
-ghost use Rattle.cfb_tree.specs.LetterViews.{letters_of, ReplaceAlike};
+ghost use Rattle.cfb_tree.specs.CaseTableViews.{case_table_of, ReplaceAlike};
 ghost use Rattle.cfb_tree.specs.Names.{ascii_letters};
 ghost use Rattle.std.specs.Prelude.{max, IfErr, IfOk, IsTrue, OnOk, ◌≡◌, ◌⊎◌};
 
@@ -29,14 +29,14 @@ pub struct OpenOptions {
 }
 
 impl OpenOptions {
-    ghost use Rattle.cfb.specs.OptionViews.{letters_asked, most_asked, validation_asked};
+    ghost use Rattle.cfb.specs.OptionViews.{case_table_asked, most_asked, validation_asked};
 
     /// A lenient reader, under the letter table of ASCII, who reads 65536 bytes of a stream at once. The one error is `Memory`.
     pub fn new(alloc: Global) -> Result<OpenOptions, Error>
-        ensures letters { IfOk result (λ it. ReplaceAlike (letters_asked it) ascii_letters) }
+        ensures letters { IfOk result (λ it. ReplaceAlike (case_table_asked it) ascii_letters) }
         ensures lenient { IfOk result (λ it. validation_asked it ≡ Permissive) }
         ensures most { IfOk result (λ it. most_asked it ≡ 65536) }
-        ensures error { IfErr result (λ e. e ≡ Memory) }
+        ensures errors { IfErr result (λ e. e ≡ Memory) }
     {
         match CaseMapper::ascii(alloc) {
             Ok(letters) => Ok(OpenOptions {
@@ -50,7 +50,7 @@ impl OpenOptions {
 
     /// Reads at most so many bytes of a stream at once, or 1024 where that is less. It governs nothing else.
     pub fn max_buffer_size(self, limit: usize) -> OpenOptions
-        ensures letters { letters_asked result ≡ letters_asked self }
+        ensures letters { case_table_asked result ≡ case_table_asked self }
         ensures validation { validation_asked result ≡ validation_asked self }
         ensures most { most_asked result ≡ max limit 1024 }
     {
@@ -68,7 +68,7 @@ impl OpenOptions {
 
     /// Opens as a strict reader does.
     pub fn strict(self) -> OpenOptions
-        ensures letters { letters_asked result ≡ letters_asked self }
+        ensures letters { case_table_asked result ≡ case_table_asked self }
         ensures validation { validation_asked result ≡ Strict }
         ensures most { most_asked result ≡ most_asked self }
     {
@@ -86,7 +86,7 @@ impl OpenOptions {
 
     /// Compares names under another letter table ([MS-CFB] 2.6.4).
     pub fn case_mapper(self, letters: CaseMapper) -> OpenOptions
-        ensures letters { letters_asked result ≡ letters_of letters }
+        ensures letters { case_table_asked result ≡ case_table_of letters }
         ensures validation { validation_asked result ≡ validation_asked self }
         ensures most { most_asked result ≡ most_asked self }
     {
@@ -110,17 +110,17 @@ impl OpenOptions {
         medium: F,
     ) -> Result<CompoundFile<F>, (F, Error)>
         ensures opens { IfOk result (λ it. OpensAt medium (mini_of it)) }
-        ensures letters { IfOk result (λ it. letters_in it ≡ letters_asked self) }
+        ensures letters { IfOk result (λ it. file_case_table it ≡ case_table_asked self) }
         ensures most { IfOk result (λ it. most_ahead_of it ≡ most_asked self) }
         ensures reader { IfOk result (λ it. validation_of it ≡ validation_asked self) }
         ensures opened { IfOk result (λ it. IsTrue (F.honest medium)
-            → IsOpenedAs (validation_asked self) (letters_asked self) (F.bytes medium) it) }
-        ensures refused { IfErr result (λ e. e.1 ≡ InvalidData → IsTrue (F.honest medium)
-            → CanOpen (validation_asked self) (letters_asked self) (F.bytes medium) → ⊥) }
-        ensures fault { IfErr result (λ e. IsFaultUnless ⊥ e.1 ⊎ (e.1 ≡ InvalidData)) }
-        ensures cause { IfErr result (λ e. HasCauseSince F.continues F.failures F.failed medium
+            → IsOpenedAs (validation_asked self) (case_table_asked self) (F.bytes medium) it) }
+        ensures refused_only_if { IfErr result (λ e. e.1 ≡ InvalidData → IsTrue (F.honest medium)
+            → CanOpen (validation_asked self) (case_table_asked self) (F.bytes medium) → ⊥) }
+        ensures errors { IfErr result (λ e. IsFaultOrInvalidInputIf ⊥ e.1 ⊎ (e.1 ≡ InvalidData)) }
+        ensures cause { IfErr result (λ e. IsJustifiedSince F.continues F.failures F.failed medium
             e.0 e.1) }
-        ensures left { IfErr result (λ e. OnlyReads F.honest F.bytes F.continues medium e.0) }
+        ensures left { IfErr result (λ e. OnlyReadsMedium F.honest F.bytes F.continues medium e.0) }
     {
         let OpenOptions {
             validation,
@@ -137,11 +137,11 @@ impl OpenOptions {
         alloc: Global,
         medium: F,
     ) -> Result<CompoundFile<F>, (F, Error)>
-        ensures created { IfOk result (IsCreated V4 (letters_asked self) medium) }
+        ensures created { IfOk result (IsCreated V4 (case_table_asked self) medium) }
         ensures most { IfOk result (λ it. most_ahead_of it ≡ most_asked self) }
         ensures left { IfErr result (λ e. LeavesNew F.honest F.bytes F.continues V4 medium e.0) }
-        ensures fault { IfErr result (λ e. IsCreateFault F.honest medium e.1) }
-        ensures cause { IfErr result (λ e. HasCauseSince F.continues F.failures F.failed medium
+        ensures errors { IfErr result (λ e. IsCreateFileError F.honest medium e.1) }
+        ensures cause { IfErr result (λ e. IsJustifiedSince F.continues F.failures F.failed medium
             e.0 e.1) }
     {
         let OpenOptions {

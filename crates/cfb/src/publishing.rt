@@ -1,9 +1,9 @@
 //! Files that are flushed and committed.
-ghost use Rattle.cfb_fat.specs.Tables.{has_failed_here, is_honest, sectors_of, HasCauseBelow};
-ghost use Rattle.cfb_medium.specs.Calls.{IsCutOff, IsFaultUnless};
+ghost use Rattle.cfb_fat.specs.Tables.{has_failed_here, is_honest, sectors_of, IsJustifiedBySectors};
+ghost use Rattle.cfb_medium.specs.Calls.{IsCutOff, IsFaultOrInvalidInputIf};
 ghost use Rattle.cfb_medium.specs.declared.error.Error.TheVariants.{Failed};
 ghost use Rattle.cfb_mini.specs.Views.{allocator_of, MiniKeepsMemory};
-ghost use Rattle.cfb_sectors.specs.Held.{LeavesOldOrBytes};
+ghost use Rattle.cfb_sectors.specs.Held.{CrashLeavesOldOrBytes};
 ghost use Rattle.std.specs.Prelude.{false, true, IfErr, IsErrOf, IsOk, IsTrue, OnErr, OnOk, ◌≡◌, ◌≤◌};
 
 use crate::CompoundFile;
@@ -11,19 +11,19 @@ use cfb_medium::{Error, Medium};
 
 impl<F: Medium> CompoundFile<F> {
     ghost use Rattle.cfb.specs.Publishing.{medium_in, IsUntouched, Publishes};
-    ghost use Rattle.cfb.specs.Views.{letters_in, mini_of, most_ahead_of, sound_of, validation_of, IsLive, FileRests};
+    ghost use Rattle.cfb.specs.Views.{file_case_table, mini_of, most_ahead_of, sound_of, validation_of, IsLive, OnlyReadsFile};
 
     /// Passes on what the medium keeps back, and publishes nothing: the file is as it was, also after an error. `Failed` after an
     /// earlier fault, before all else; the other errors are `Memory` and `Device`. Of a file that isn't sound nothing is passed on.
     pub fn flush(&mut self) -> Result<(), Error>
-        ensures rests { FileRests self.old self.new }
-        ensures failed { has_failed_here (allocator_of (mini_of self.old)) ≡ true
+        ensures only_reads { OnlyReadsFile self.old self.new }
+        ensures when_failed { has_failed_here (allocator_of (mini_of self.old)) ≡ true
             → IsErrOf result Failed }
         ensures unsound { IsLive self.old → sound_of self.old ≡ false
             → IsOk result × IsUntouched self.old self.new }
-        ensures cause { IfErr result (HasCauseBelow (allocator_of (mini_of self.old))
+        ensures cause { IfErr result (IsJustifiedBySectors (allocator_of (mini_of self.old))
             (allocator_of (mini_of self.new))) }
-        ensures fault { IfErr result (IsFaultUnless ⊥) }
+        ensures errors { IfErr result (IsFaultOrInvalidInputIf ⊥) }
     {
         if self.is_failed() {
             return Err(Error::Failed);
@@ -44,24 +44,25 @@ impl<F: Medium> CompoundFile<F> {
             → Publishes F.has_published self.old self.new) }
         ensures unsound { IsLive self.old → sound_of self.old ≡ false
             → IsOk result × IsUntouched self.old self.new }
-        ensures left { IsTrue (is_honest (allocator_of (mini_of self.old)))
-            → LeavesOldOrBytes (sectors_of (allocator_of (mini_of self.old)))
+        ensures crash { IsTrue (is_honest (allocator_of (mini_of self.old)))
+            → CrashLeavesOldOrBytes (sectors_of (allocator_of (mini_of self.old)))
             (sectors_of (allocator_of (mini_of self.new))) }
         ensures memory { MiniKeepsMemory (mini_of self.old) (mini_of self.new) }
-        ensures seen { (letters_in self.new ≡ letters_in self.old)
+        ensures seen { (file_case_table self.new ≡ file_case_table self.old)
             × (sound_of self.new ≡ sound_of self.old)
             × (validation_of self.new ≡ validation_of self.old)
             × (most_ahead_of self.new ≡ most_ahead_of self.old) }
-        ensures err { OnErr result (has_failed_here (allocator_of (mini_of self.new)) ≡ true) }
-        ensures failed { has_failed_here (allocator_of (mini_of self.old)) ≡ true
-            → IsErrOf result Failed × FileRests self.old self.new }
-        ensures cause { IfErr result (HasCauseBelow (allocator_of (mini_of self.old))
+        ensures after_error { OnErr result
+            (has_failed_here (allocator_of (mini_of self.new)) ≡ true) }
+        ensures when_failed { has_failed_here (allocator_of (mini_of self.old)) ≡ true
+            → IsErrOf result Failed × OnlyReadsFile self.old self.new }
+        ensures cause { IfErr result (IsJustifiedBySectors (allocator_of (mini_of self.old))
             (allocator_of (mini_of self.new))) }
         ensures medium { (F.failures (medium_in self.old) ≤ F.failures (medium_in self.new))
             × OnOk result (F.failed (medium_in self.new) ≡ F.failed (medium_in self.old)) }
         ensures cut { IfErr result (IsCutOff F.failed F.continues (medium_in self.old)
             (medium_in self.new)) }
-        ensures fault { IfErr result (IsFaultUnless ⊥) }
+        ensures errors { IfErr result (IsFaultOrInvalidInputIf ⊥) }
     {
         if self.is_failed() {
             return Err(Error::Failed);

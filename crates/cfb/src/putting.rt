@@ -1,14 +1,14 @@
 //! Streams that get their bytes in one call, by their paths.
-ghost use Rattle.cfb.specs.Putting.{putting, rewriting, IsFullAt, IsRefusedPut, IsRefusedRewriting, FilePuts};
+ghost use Rattle.cfb.specs.Putting.{putting, rewriting, IsFullAt, IsPutStreamError, IsRefusedRewriting, FilePuts};
 ghost use Rattle.cfb.specs.Views.{mini_of, most_ahead_of};
 ghost use Rattle.cfb_directory.specs.Growth.{LacksEntries};
 ghost use Rattle.cfb_entries.specs.Rules.{names_in};
-ghost use Rattle.cfb_fat.specs.Calls.{FatAnswers};
+ghost use Rattle.cfb_fat.specs.Calls.{FatErrorContract};
 ghost use Rattle.cfb_fat.specs.Tables.{has_failed_here, version_of};
 ghost use Rattle.cfb_medium.specs.Versions.{stream_len_mask};
 ghost use Rattle.cfb_medium.specs.declared.error.Error.TheVariants.{Full};
 ghost use Rattle.cfb_mini.specs.Views.{allocator_of, directory_of};
-ghost use Rattle.cfb_owned.specs.Chains.{GoesOn};
+ghost use Rattle.cfb_chain_io.specs.ChainEffects.{KeepsFileInvariants};
 ghost use Rattle.std.specs.Prelude.{false, length, IsErrOf, ◌≡◌, ◌≤◌, ◌⊎◌};
 
 use crate::CompoundFile;
@@ -24,12 +24,13 @@ impl<F: Medium> CompoundFile<F> {
         requires { length bytes.now
             ≤ stream_len_mask (version_of (allocator_of (mini_of self.old))) }
         ensures puts { FilePuts (rewriting bytes.now) (names_in path.now) result self.old self.new }
-        ensures full { IsErrOf result Full
+        ensures full_only_if { IsErrOf result Full
             → has_failed_here (allocator_of (mini_of self.new)) ≡ false
             → IsFullAt self.old (names_in path.now) (length bytes.now) }
-        ensures goes_on { GoesOn (allocator_of (mini_of self.old))
+        ensures invariants { KeepsFileInvariants (allocator_of (mini_of self.old))
             (allocator_of (mini_of self.new)) }
-        ensures answers { FatAnswers IsRefusedRewriting result (allocator_of (mini_of self.old))
+        ensures error_contract { FatErrorContract IsRefusedRewriting result
+            (allocator_of (mini_of self.old))
             (allocator_of (mini_of self.new)) }
         ensures most { most_ahead_of self.new ≡ most_ahead_of self.old }
     {
@@ -57,13 +58,14 @@ impl<F: Medium> CompoundFile<F> {
         requires { length bytes.now
             ≤ stream_len_mask (version_of (allocator_of (mini_of self.old))) }
         ensures puts { FilePuts (putting bytes.now) (names_in path.now) result self.old self.new }
-        ensures full { IsErrOf result Full
+        ensures full_only_if { IsErrOf result Full
             → has_failed_here (allocator_of (mini_of self.new)) ≡ false
             → LacksEntries (directory_of (mini_of self.old))
             ⊎ IsFullAt self.old (names_in path.now) (length bytes.now) }
-        ensures goes_on { GoesOn (allocator_of (mini_of self.old))
+        ensures invariants { KeepsFileInvariants (allocator_of (mini_of self.old))
             (allocator_of (mini_of self.new)) }
-        ensures answers { FatAnswers IsRefusedPut result (allocator_of (mini_of self.old))
+        ensures error_contract { FatErrorContract IsPutStreamError result
+            (allocator_of (mini_of self.old))
             (allocator_of (mini_of self.new)) }
         ensures most { most_ahead_of self.new ≡ most_ahead_of self.old }
     {

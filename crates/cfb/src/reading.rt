@@ -1,16 +1,16 @@
 //! Streams of a file, opened by their paths and read.
-ghost use Rattle.cfb.specs.Putting.{IsRefusedOpening};
-ghost use Rattle.cfb.specs.Streams.{bytes_found, file_of, len_of, position_of, HasContent, HasStream, FileHolds, IsStreamAt, IsTrueToBytes, IsWant, KeepsStream, TellsBytes, TellsRead, TellsStream};
-ghost use Rattle.cfb.specs.Views.{ahead_held, letters_in, mini_of, most_ahead_of, FileRests, FileShows};
+ghost use Rattle.cfb.specs.Putting.{IsOpenStreamError};
+ghost use Rattle.cfb.specs.Streams.{bytes_found, file_of, len_of, position_of, StreamHasContent, FileHasStream, FileHoldsTree, IsStreamAt, IsTrueToBytes, IsFileMemoryOrFailed, KeepsStream, ReturnsBytesOrFault, TellsRead, ReturnsStream};
+ghost use Rattle.cfb.specs.Views.{ahead_held, file_case_table, mini_of, most_ahead_of, OnlyReadsFile, FileShowsTree};
 ghost use Rattle.cfb.specs.contracts.compound_file.CompoundFile.{the_row};
 ghost use Rattle.cfb_entries.specs.Rules.{answer_at, names_in};
 ghost use Rattle.cfb_chains.specs.ChainCalls.{IsInvalidPlace};
-ghost use Rattle.cfb_fat.specs.Tables.{has_failed_here, HasCauseBelow};
-ghost use Rattle.cfb_medium.specs.Calls.{IsFaultUnless};
-ghost use Rattle.cfb_meaning.specs.TreeRules.{has_bytes, open_read_stream, refused};
+ghost use Rattle.cfb_fat.specs.Tables.{has_failed_here, IsJustifiedBySectors};
+ghost use Rattle.cfb_medium.specs.Calls.{IsFaultOrInvalidInputIf};
+ghost use Rattle.cfb_spec.specs.TreeRules.{has_bytes, open_read_stream, refused};
 ghost use Rattle.cfb_medium.specs.declared.error.Error.TheVariants.{Failed, Memory};
 ghost use Rattle.cfb_mini.specs.Views.{allocator_of};
-ghost use Rattle.cfb_streams.specs.Content.{count_from, ReadsPart};
+ghost use Rattle.cfb_stream_reads.specs.Content.{count_from, ReadsPart};
 ghost use Rattle.cfb_tree.specs.Directory.{Entry};
 ghost use Rattle.cfb_tree.specs.Tree.{Tree};
 ghost use Rattle.std.specs.Borrow.{sem, RestsIfErr};
@@ -19,15 +19,16 @@ ghost use Rattle.std.specs.Prelude.{drop, false, length, min, take, true, IfErr,
 use crate::{CompoundFile, ReadStream};
 use cfb_entries::stream_at;
 use cfb_medium::{Error, ReadMedium};
-use cfb_streams::{open_stream, read_ahead, read_bytes, read_whole};
+use cfb_stream_reads::{open_stream, read_ahead, read_bytes, read_whole};
 
 impl<F: ReadMedium> CompoundFile<F> {
     // Refuses every call after a fault.
     pub(crate) fn check_live(&self) -> Result<(), Error>
-        ensures failed { has_failed_here (allocator_of (mini_of self.now)) ≡ true
+        ensures when_failed { has_failed_here (allocator_of (mini_of self.now)) ≡ true
             → IsErrOf result Failed }
-        ensures live { OnOk result (has_failed_here (allocator_of (mini_of self.now)) ≡ false) }
-        ensures error { IfErr result (λ e. (e ≡ Failed)
+        ensures not_failed { OnOk result
+            (has_failed_here (allocator_of (mini_of self.now)) ≡ false) }
+        ensures errors { IfErr result (λ e. (e ≡ Failed)
             × (has_failed_here (allocator_of (mini_of self.now)) ≡ true)) }
     {
         if self.is_failed() {
@@ -38,19 +39,21 @@ impl<F: ReadMedium> CompoundFile<F> {
 
     // Finds the sectors of the stream at a path, and gives how many bytes it has. Nothing is read ahead of it yet.
     fn find_stream(&mut self, path: &str) -> Result<u64, Error>
-        ensures rests { FileRests self.old self.new }
+        ensures only_reads { OnlyReadsFile self.old self.new }
         ensures small { IfOk result (λ len. len < 2 ^ 63) }
-        ensures told { (tree : Tree) → FileShows self.old tree
-            → TellsStream self.old path.now (λ len. self.new) (λ len. len)
-            (answer_at (letters_in self.old) tree open_read_stream (names_in path.now)) result }
-        ensures bytes { (tree : Tree) → FileHolds self.old tree
-            → TellsBytes self.old (λ len. self.new) (λ len. len)
-            (answer_at (letters_in self.old) tree open_read_stream (names_in path.now)) result }
+        ensures answer { (tree : Tree) → FileShowsTree self.old tree
+            → ReturnsStream self.old path.now (λ len. self.new) (λ len. len)
+            (answer_at (file_case_table self.old) tree open_read_stream (names_in path.now))
+            result }
+        ensures bytes { (tree : Tree) → FileHoldsTree self.old tree
+            → ReturnsBytesOrFault self.old (λ len. self.new) (λ len. len)
+            (answer_at (file_case_table self.old) tree open_read_stream (names_in path.now))
+            result }
         ensures found { IfOk result (λ len. IsTrueToBytes self.old
-            → HasStream self.new len (bytes_found self.new len)) }
-        ensures failed { has_failed_here (allocator_of (mini_of self.old)) ≡ true
+            → FileHasStream self.new len (bytes_found self.new len)) }
+        ensures when_failed { has_failed_here (allocator_of (mini_of self.old)) ≡ true
             → IsErrOf result Failed }
-        ensures cause { IfErr result (λ e. IsWant self.old e ⊎ IsRefusedOpening e) }
+        ensures cause { IfErr result (λ e. IsFileMemoryOrFailed self.old e ⊎ IsOpenStreamError e) }
     {
         match self.check_live() {
             Ok(()) => {}
@@ -74,21 +77,24 @@ impl<F: ReadMedium> CompoundFile<F> {
     /// there, `InvalidInput` where it is a storage, `InvalidData` where the stream's chain breaks or is too short. The other
     /// errors are `Memory`, and `Failed` after an earlier fault, before all else. The file is only read.
     pub fn open_read_stream(&mut self, path: &str) -> Result<ReadStream<'_, F>, Error>
-        ensures* refused { sem 𝓛 (RestsIfErr (the_row F.row F.ReadMedium) self.entry
-            (λ s. s.file.ghost_name) result (FileRests self.old)) }
+        ensures* refused_only_if { sem 𝓛 (RestsIfErr (the_row F.row F.ReadMedium) self.entry
+            (λ s. s.file.ghost_name) result (OnlyReadsFile self.old)) }
         ensures same_reference { IfOk result (λ s. s.file.ghost_name ≡ self.entry.ghost_name) }
-        ensures rests { IfOk result (λ s. FileRests self.old (file_of s)) }
+        ensures only_reads { IfOk result (λ s. OnlyReadsFile self.old (file_of s)) }
         ensures at_start { IfOk result (λ s. position_of s ≡ 0) }
-        ensures told { (tree : Tree) → FileShows self.old tree
-            → TellsStream self.old path.now file_of len_of
-            (answer_at (letters_in self.old) tree open_read_stream (names_in path.now)) result }
-        ensures bytes { (tree : Tree) → FileHolds self.old tree → TellsBytes self.old file_of len_of
-            (answer_at (letters_in self.old) tree open_read_stream (names_in path.now)) result }
+        ensures answer { (tree : Tree) → FileShowsTree self.old tree
+            → ReturnsStream self.old path.now file_of len_of
+            (answer_at (file_case_table self.old) tree open_read_stream (names_in path.now))
+            result }
+        ensures bytes { (tree : Tree) → FileHoldsTree self.old tree
+            → ReturnsBytesOrFault self.old file_of len_of
+            (answer_at (file_case_table self.old) tree open_read_stream (names_in path.now))
+            result }
         ensures found { IfOk result (λ s. IsTrueToBytes self.old
-            → HasContent s (bytes_found (file_of s) (len_of s))) }
-        ensures failed { has_failed_here (allocator_of (mini_of self.old)) ≡ true
+            → StreamHasContent s (bytes_found (file_of s) (len_of s))) }
+        ensures when_failed { has_failed_here (allocator_of (mini_of self.old)) ≡ true
             → IsErrOf result Failed }
-        ensures cause { IfErr result (λ e. IsWant self.old e ⊎ IsRefusedOpening e) }
+        ensures cause { IfErr result (λ e. IsFileMemoryOrFailed self.old e ⊎ IsOpenStreamError e) }
     {
         match self.find_stream(path) {
             Ok(len) => Ok(ReadStream::new(self, len)),
@@ -100,23 +106,25 @@ impl<F: ReadMedium> CompoundFile<F> {
     /// the root, `NotFound` where no object is there, `InvalidInput` where it is a storage, `InvalidData` where the stream's chain
     /// breaks or is too short. The other errors are `Memory` and `Device`. The file is only read ([MS-CFB] 2.6.3).
     pub fn read_stream(&mut self, path: &str) -> Result<Vec<u8>, Error>
-        ensures rests { FileRests self.old self.new }
-        ensures told { (tree : Tree) → FileShows self.old tree
+        ensures only_reads { OnlyReadsFile self.old self.new }
+        ensures answer { (tree : Tree) → FileShowsTree self.old tree
             → TellsRead self.old self.new path.now (λ bytes. bytes.items)
-            (answer_at (letters_in self.old) tree open_read_stream (names_in path.now)) result }
-        ensures bytes { (tree : Tree) → FileHolds self.old tree → IfOk result (λ bytes.
-            answer_at (letters_in self.old) tree open_read_stream (names_in path.now)
+            (answer_at (file_case_table self.old) tree open_read_stream (names_in path.now))
+            result }
+        ensures bytes { (tree : Tree) → FileHoldsTree self.old tree → IfOk result (λ bytes.
+            answer_at (file_case_table self.old) tree open_read_stream (names_in path.now)
             ≡ has_bytes bytes.items) }
-        ensures refused { (tree : Tree) → FileHolds self.old tree
-            → IfErr result (λ e. IsFaultUnless ⊥ e
-            ⊎ (answer_at (letters_in self.old) tree open_read_stream (names_in path.now)
+        ensures refused_only_if { (tree : Tree) → FileHoldsTree self.old tree
+            → IfErr result (λ e. IsFaultOrInvalidInputIf ⊥ e
+            ⊎ (answer_at (file_case_table self.old) tree open_read_stream (names_in path.now)
             ≡ refused e)) }
         ensures found { IfOk result (λ bytes. IsTrueToBytes self.old
             → bytes.items ≡ bytes_found self.new (length bytes.items)) }
-        ensures failed { has_failed_here (allocator_of (mini_of self.old)) ≡ true
+        ensures when_failed { has_failed_here (allocator_of (mini_of self.old)) ≡ true
             → IsErrOf result Failed }
-        ensures cause { IfErr result (λ e. HasCauseBelow (allocator_of (mini_of self.old))
-            (allocator_of (mini_of self.new)) e × (IsFaultUnless ⊥ e ⊎ IsRefusedOpening e)) }
+        ensures cause { IfErr result (λ e. IsJustifiedBySectors (allocator_of (mini_of self.old))
+            (allocator_of (mini_of self.new)) e
+            × (IsFaultOrInvalidInputIf ⊥ e ⊎ IsOpenStreamError e)) }
     {
         let len = match self.find_stream(path) {
             Ok(len) => len,
@@ -133,14 +141,14 @@ impl<F: ReadMedium> CompoundFile<F> {
     // was read ahead.
     pub(crate) fn read_bytes(&mut self, at: u64, len: u64, buffer: &mut [u8]) -> Result<(), Error>
         requires { at + length buffer.old ≤ len }
-        ensures part { (content : List ℕ) → HasStream self.old len content
+        ensures part { (content : List ℕ) → FileHasStream self.old len content
             → ReadsPart content at buffer.old buffer.new result }
         ensures keeps { KeepsStream len self.old self.new }
-        ensures cause { IfErr result (HasCauseBelow (allocator_of (mini_of self.old))
+        ensures cause { IfErr result (IsJustifiedBySectors (allocator_of (mini_of self.old))
             (allocator_of (mini_of self.new))) }
-        ensures failed { has_failed_here (allocator_of (mini_of self.old)) ≡ true
+        ensures when_failed { has_failed_here (allocator_of (mini_of self.old)) ≡ true
             → IsErrOf result Failed }
-        ensures fault { IfErr result (λ e. IsFaultUnless ⊥ e ⊎ IsInvalidPlace e) }
+        ensures errors { IfErr result (λ e. IsFaultOrInvalidInputIf ⊥ e ⊎ IsInvalidPlace e) }
     {
         if self.is_failed() {
             return Err(Error::Failed);
@@ -160,12 +168,12 @@ impl<F: ReadMedium> CompoundFile<F> {
         requires { at ≤ len }
         ensures some { OnOk result (at < len → 0 < count_from (ahead_held self.new) at) }
         ensures keeps { KeepsStream len self.old self.new }
-        ensures cause { IfErr result (HasCauseBelow (allocator_of (mini_of self.old))
+        ensures cause { IfErr result (IsJustifiedBySectors (allocator_of (mini_of self.old))
             (allocator_of (mini_of self.new))) }
-        ensures failed { has_failed_here (allocator_of (mini_of self.old)) ≡ true
+        ensures when_failed { has_failed_here (allocator_of (mini_of self.old)) ≡ true
             → IsErrOf result Failed }
-        ensures fault { IfErr result (λ e. IsFaultUnless ⊥ e ⊎ (IsInvalidPlace e
-            × ((content : List ℕ) → HasStream self.old len content → ⊥))) }
+        ensures errors { IfErr result (λ e. IsFaultOrInvalidInputIf ⊥ e ⊎ (IsInvalidPlace e
+            × ((content : List ℕ) → FileHasStream self.old len content → ⊥))) }
     {
         if self.is_failed() {
             return Err(Error::Failed);

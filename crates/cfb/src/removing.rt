@@ -1,10 +1,10 @@
 //! Objects of a file that are removed, by their paths.
 ghost use Rattle.cfb_entries.specs.Rules.{names_in};
-ghost use Rattle.cfb_fat.specs.Calls.{FatAnswers};
-ghost use Rattle.cfb_live.specs.Removing.{IsRefusedRemoval};
-ghost use Rattle.cfb_meaning.specs.TreeRules.{remove_storage, remove_storage_all, remove_stream};
+ghost use Rattle.cfb_fat.specs.Calls.{FatErrorContract};
+ghost use Rattle.cfb_tree_edits.specs.Removing.{IsRemoveObjectError};
+ghost use Rattle.cfb_spec.specs.TreeRules.{remove_storage, remove_storage_all, remove_stream};
 ghost use Rattle.cfb_mini.specs.Views.{allocator_of};
-ghost use Rattle.cfb_owned.specs.Chains.{GoesOn};
+ghost use Rattle.cfb_chain_io.specs.ChainEffects.{KeepsFileInvariants};
 ghost use Rattle.cfb_tree.specs.Tree.{Tree};
 ghost use Rattle.std.specs.Prelude.{OnOk};
 
@@ -13,7 +13,7 @@ use cfb_medium::{Error, Medium};
 use cfb_sectors::HasSectors;
 
 impl<F: Medium> CompoundFile<F> {
-    ghost use Rattle.cfb.specs.Doing.{Does, FileMeans};
+    ghost use Rattle.cfb.specs.FollowedRules.{FollowsTreeRules, FileMeansTree};
     ghost use Rattle.cfb.specs.Removing.{GivesUpStream};
     ghost use Rattle.cfb.specs.Views.{mini_of};
 
@@ -22,13 +22,15 @@ impl<F: Medium> CompoundFile<F> {
     /// `InvalidInput` where that is a storage. The other errors are `Memory` and `Device`. After an error nothing is changed, or
     /// the file has failed ([MS-CFB] 2.6.3).
     pub fn remove_stream(&mut self, path: &str) -> Result<(), Error>
-        ensures does { Does (names_in path.now) (λ names. remove_stream names) result self.old
+        ensures tree_rule { FollowsTreeRules (names_in path.now)
+            (λ names. remove_stream names) result self.old
             self.new }
-        ensures freed { OnOk result ((tree : Tree) → FileMeans self.old tree
+        ensures freed { OnOk result ((tree : Tree) → FileMeansTree self.old tree
             → GivesUpStream self.old self.new path.now) }
-        ensures goes_on { GoesOn (allocator_of (mini_of self.old))
+        ensures invariants { KeepsFileInvariants (allocator_of (mini_of self.old))
             (allocator_of (mini_of self.new)) }
-        ensures answers { FatAnswers IsRefusedRemoval result (allocator_of (mini_of self.old))
+        ensures error_contract { FatErrorContract IsRemoveObjectError result
+            (allocator_of (mini_of self.old))
             (allocator_of (mini_of self.new)) }
     {
         if self.mini.directory().allocator().is_failed() {
@@ -37,17 +39,19 @@ impl<F: Medium> CompoundFile<F> {
         if !self.is_sound {
             return Err(Error::InvalidData);
         }
-        cfb_live::remove_stream(self.alloc, &mut self.mini, &self.letters, path)
+        cfb_tree_edits::remove_stream(self.alloc, &mut self.mini, &self.letters, path)
     }
 
     /// Removes the storage at a path, which holds nothing. `InvalidInput` where a stream is at the path, or
     /// a storage with content, or the path is the root's. All else is as for `remove_stream` ([MS-CFB] 2.6.2).
     pub fn remove_storage(&mut self, path: &str) -> Result<(), Error>
-        ensures does { Does (names_in path.now) (λ names. remove_storage names) result self.old
+        ensures tree_rule { FollowsTreeRules (names_in path.now)
+            (λ names. remove_storage names) result self.old
             self.new }
-        ensures goes_on { GoesOn (allocator_of (mini_of self.old))
+        ensures invariants { KeepsFileInvariants (allocator_of (mini_of self.old))
             (allocator_of (mini_of self.new)) }
-        ensures answers { FatAnswers IsRefusedRemoval result (allocator_of (mini_of self.old))
+        ensures error_contract { FatErrorContract IsRemoveObjectError result
+            (allocator_of (mini_of self.old))
             (allocator_of (mini_of self.new)) }
     {
         if self.mini.directory().allocator().is_failed() {
@@ -56,7 +60,7 @@ impl<F: Medium> CompoundFile<F> {
         if !self.is_sound {
             return Err(Error::InvalidData);
         }
-        cfb_live::remove_storage(self.alloc, &mut self.mini, &self.letters, path)
+        cfb_tree_edits::remove_storage(self.alloc, &mut self.mini, &self.letters, path)
     }
 
     /// Removes the storage at a path with all that it holds; the root is only emptied. No sector of its
@@ -64,11 +68,13 @@ impl<F: Medium> CompoundFile<F> {
     /// is as for `remove_stream`. It keeps the way to the object that was removed last, and goes on from there ([MS-CFB] 2.6.2 to
     /// 2.6.4).
     pub fn remove_storage_all(&mut self, path: &str) -> Result<(), Error>
-        ensures does { Does (names_in path.now) (λ names. remove_storage_all names) result self.old
+        ensures tree_rule { FollowsTreeRules (names_in path.now)
+            (λ names. remove_storage_all names) result self.old
             self.new }
-        ensures goes_on { GoesOn (allocator_of (mini_of self.old))
+        ensures invariants { KeepsFileInvariants (allocator_of (mini_of self.old))
             (allocator_of (mini_of self.new)) }
-        ensures answers { FatAnswers IsRefusedRemoval result (allocator_of (mini_of self.old))
+        ensures error_contract { FatErrorContract IsRemoveObjectError result
+            (allocator_of (mini_of self.old))
             (allocator_of (mini_of self.new)) }
     {
         if self.mini.directory().allocator().is_failed() {
@@ -77,6 +83,6 @@ impl<F: Medium> CompoundFile<F> {
         if !self.is_sound {
             return Err(Error::InvalidData);
         }
-        cfb_live::remove_storage_all(self.alloc, &mut self.mini, &self.letters, path)
+        cfb_tree_edits::remove_storage_all(self.alloc, &mut self.mini, &self.letters, path)
     }
 }

@@ -1,6 +1,6 @@
 //! A stream's bytes from a position on.
 ghost use Rattle.cfb.specs.Views.{mini_of, most_ahead_of};
-ghost use Rattle.cfb_fat.specs.Tables.{HasCauseBelow};
+ghost use Rattle.cfb_fat.specs.Tables.{IsJustifiedBySectors};
 ghost use Rattle.cfb_medium.specs.declared.error.Error.TheVariants.{InvalidInput};
 ghost use Rattle.cfb_mini.specs.Views.{allocator_of};
 ghost use Rattle.cfb_sectors.specs.Seeking.{Finds};
@@ -24,7 +24,7 @@ pub struct ReadStream<'a, F: ReadMedium> {
 }
 
 impl<'a, F: ReadMedium> ReadStream<'a, F> {
-    ghost use Rattle.cfb.specs.Streams.{buffered_of, file_of, len_of, position_of, ReaderFills, HasContent, IsFaultOrLost, Stays};
+    ghost use Rattle.cfb.specs.Streams.{buffered_of, file_of, len_of, position_of, ReaderFills, StreamHasContent, IsFaultOrLost, KeepsReadStream};
     ghost use Rattle.cfb.specs.contracts.stream.ReadStream.{the_row};
     ghost use Rattle.std.specs.Io.BufRead.{Rests as Leaves};
 
@@ -61,17 +61,18 @@ impl<'a, F: ReadMedium> ReadStream<'a, F> {
     /// are faults. After an error the position stays, and the buffer holds any bytes. A read of less than 1024 bytes is served
     /// from what was read ahead, where that is enough.
     pub fn read(&mut self, buffer: &mut [u8]) -> Result<usize, Error>
-        ensures read { (content : List ℕ) → HasContent self.old content → IfOk result (λ n.
+        ensures read { (content : List ℕ) → StreamHasContent self.old content → IfOk result (λ n.
             take n buffer.new ≡ take n (drop (position_of self.old) content)) }
         ensures rest { IfOk result (λ n. drop n buffer.new ≡ drop n buffer.old) }
         ensures count { IfOk result (λ n. n
             ≡ min (len_of self.old - position_of self.old) (length buffer.old)) }
         ensures moved { IfOk result (λ n. position_of self.new ≡ position_of self.old + n) }
         ensures unmoved { OnErr result (position_of self.new ≡ position_of self.old) }
-        ensures stays { Stays self.old self.new }
-        ensures cause { IfErr result (HasCauseBelow (allocator_of (mini_of (file_of self.old)))
+        ensures stays { KeepsReadStream self.old self.new }
+        ensures cause { IfErr result
+            (IsJustifiedBySectors (allocator_of (mini_of (file_of self.old)))
             (allocator_of (mini_of (file_of self.new)))) }
-        ensures fault { IfErr result (IsFaultOrLost self.old) }
+        ensures errors { IfErr result (IsFaultOrLost self.old) }
     {
         let count = (self.len - self.position).min(buffer.len() as u64) as usize;
         self.file
@@ -84,16 +85,17 @@ impl<'a, F: ReadMedium> ReadStream<'a, F> {
     /// `InvalidInput` where the file hasn't the bytes; the other errors are faults. After an error position and bytes are as
     /// they were.
     pub fn read_to_end(&mut self, bytes: &mut Vec<u8>) -> Result<usize, Error>
-        ensures read { (content : List ℕ) → HasContent self.old content → IfOk result (λ n.
+        ensures read { (content : List ℕ) → StreamHasContent self.old content → IfOk result (λ n.
             bytes.new.items ≡ bytes.old.items ++ drop (position_of self.old) content) }
         ensures count { IfOk result (λ n. n ≡ len_of self.old - position_of self.old) }
         ensures moved { IfOk result (λ n. position_of self.new ≡ len_of self.old) }
         ensures unmoved { OnErr result ((position_of self.new ≡ position_of self.old)
             × (bytes.new.items ≡ bytes.old.items)) }
-        ensures stays { Stays self.old self.new }
-        ensures cause { IfErr result (HasCauseBelow (allocator_of (mini_of (file_of self.old)))
+        ensures stays { KeepsReadStream self.old self.new }
+        ensures cause { IfErr result
+            (IsJustifiedBySectors (allocator_of (mini_of (file_of self.old)))
             (allocator_of (mini_of (file_of self.new)))) }
-        ensures fault { IfErr result (IsFaultOrLost self.old) }
+        ensures errors { IfErr result (IsFaultOrLost self.old) }
     {
         let front = bytes.len();
         let count = (self.len - self.position) as usize;
@@ -116,17 +118,18 @@ impl<'a, F: ReadMedium> ReadStream<'a, F> {
         ensures some { OnOk result (position_of self.old < len_of self.old
             → 0 < buffered_of self.new) }
         ensures unmoved { position_of self.new ≡ position_of self.old }
-        ensures stays { Stays self.old self.new }
-        ensures cause { IfErr result (HasCauseBelow (allocator_of (mini_of (file_of self.old)))
+        ensures stays { KeepsReadStream self.old self.new }
+        ensures cause { IfErr result
+            (IsJustifiedBySectors (allocator_of (mini_of (file_of self.old)))
             (allocator_of (mini_of (file_of self.new)))) }
-        ensures fault { IfErr result (IsFaultOrLost self.old) }
+        ensures errors { IfErr result (IsFaultOrLost self.old) }
     {
         self.file.read_more(self.position, self.len)
     }
 
     /// The bytes that were read ahead from the position on: at most so many as the file reads ahead at once.
     pub fn buffer(&self) -> &[u8]
-        ensures bytes { (content : List ℕ) → HasContent self.now content → result.now
+        ensures bytes { (content : List ℕ) → StreamHasContent self.now content → result.now
             ≡ take (length result.now) (drop (position_of self.now) content) }
         ensures count { length result.now ≡ buffered_of self.now }
         ensures most { length result.now ≤ most_ahead_of (file_of self.now) }
@@ -139,13 +142,14 @@ impl<'a, F: ReadMedium> ReadStream<'a, F> {
         ensures* leaves { sem 𝓛 (Leaves
             (the_row (record { mir = named 1; lft = [] }) F.row F.ReadMedium) self.entry
             (ReaderFills result self.old)) }
-        ensures bytes { (content : List ℕ) → HasContent self.old content → IfOk result (λ b. b.now
+        ensures bytes { (content : List ℕ) → StreamHasContent self.old content
+            → IfOk result (λ b. b.now
             ≡ take (length b.now) (drop (position_of self.old) content)) }
         ensures inside { IfOk result (λ b. length b.now ≤ len_of self.old - position_of self.old) }
         ensures most { IfOk result (λ b. length b.now ≤ most_ahead_of (file_of self.old)) }
         ensures some { IfOk result (λ b. length b.now ≡ 0
             → position_of self.old ≡ len_of self.old) }
-        ensures fault { IfErr result (IsFaultOrLost self.old) }
+        ensures errors { IfErr result (IsFaultOrLost self.old) }
     {
         match self.fill() {
             Ok(()) => Ok(self.buffer()),
@@ -157,7 +161,7 @@ impl<'a, F: ReadMedium> ReadStream<'a, F> {
     pub fn consume(&mut self, amount: usize)
         requires { position_of self.old + amount ≤ len_of self.old }
         ensures moved { position_of self.new ≡ position_of self.old + amount }
-        ensures stays { Stays self.old self.new }
+        ensures stays { KeepsReadStream self.old self.new }
     {
         self.position += amount as u64;
     }
@@ -167,10 +171,10 @@ impl<'a, F: ReadMedium> ReadStream<'a, F> {
     pub fn seek(&mut self, from: SeekFrom) -> Result<u64, Error>
         ensures ok { IfOk result (λ n. Finds from (len_of self.old) (position_of self.old) n
             × (position_of self.new ≡ n)) }
-        ensures error { IfErr result (λ e. (e ≡ InvalidInput) × ((n : ℕ)
+        ensures errors { IfErr result (λ e. (e ≡ InvalidInput) × ((n : ℕ)
             → Finds from (len_of self.old) (position_of self.old) n → ⊥)) }
         ensures unmoved { OnErr result (position_of self.new ≡ position_of self.old) }
-        ensures stays { Stays self.old self.new }
+        ensures stays { KeepsReadStream self.old self.new }
     {
         let Some(place) = place_found(from, self.len, self.position) else {
             return Err(Error::InvalidInput);

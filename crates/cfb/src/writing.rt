@@ -1,48 +1,51 @@
 //! Streams of a file, opened by their paths and written.
-ghost use Rattle.cfb.specs.Doing.{FileMeans};
-ghost use Rattle.cfb.specs.Putting.{IsRefusedOpening};
-ghost use Rattle.cfb.specs.Streams.{IsWant, KeepsStream};
-ghost use Rattle.cfb.specs.Views.{letters_in, mini_of, most_ahead_of, sound_of, validation_of, FileRests};
+ghost use Rattle.cfb.specs.FollowedRules.{FileMeansTree};
+ghost use Rattle.cfb.specs.Putting.{IsOpenStreamError};
+ghost use Rattle.cfb.specs.Streams.{IsFileMemoryOrFailed, KeepsStream};
+ghost use Rattle.cfb.specs.Views.{file_case_table, mini_of, most_ahead_of, sound_of, validation_of, OnlyReadsFile};
 ghost use Rattle.cfb.specs.Writing.{file_under, place_of, FindsWritten, IsLostAt, StreamIsWritten, KeepsAt, LacksRoomAt, Opens, RewritesAt};
 ghost use Rattle.cfb.specs.contracts.compound_file.CompoundFile.{the_row};
 ghost use Rattle.cfb_chains.specs.ChainCalls.{IsInvalidPlace};
 ghost use Rattle.cfb_entries.specs.Rules.{answer_at, names_in};
-ghost use Rattle.cfb_fat.specs.Calls.{FatAnswers};
-ghost use Rattle.cfb_fat.specs.Tables.{has_failed_here, version_of, HasCauseBelow};
-ghost use Rattle.cfb_medium.specs.Calls.{IsFaultUnless};
-ghost use Rattle.cfb_meaning.specs.TreeRules.{open_stream, refused};
+ghost use Rattle.cfb_fat.specs.Calls.{FatErrorContract};
+ghost use Rattle.cfb_fat.specs.Tables.{has_failed_here, version_of, IsJustifiedBySectors};
+ghost use Rattle.cfb_medium.specs.Calls.{IsFaultOrInvalidInputIf};
+ghost use Rattle.cfb_spec.specs.TreeRules.{open_stream, refused};
 ghost use Rattle.cfb_medium.specs.Bytes.{overwritten};
 ghost use Rattle.cfb_medium.specs.Versions.{stream_len_mask};
 ghost use Rattle.cfb_medium.specs.declared.error.Error.TheVariants.{Failed, Full, InvalidData, InvalidInput};
 ghost use Rattle.cfb_mini.specs.Views.{allocator_of};
-ghost use Rattle.cfb_owned.specs.Chains.{GoesOn, IsInvalidPlaceOrFull};
+ghost use Rattle.cfb_chain_io.specs.ChainEffects.{KeepsFileInvariants, IsInvalidPlaceOrFull};
 ghost use Rattle.cfb_tree.specs.Paths.{Path};
 ghost use Rattle.cfb_tree.specs.Tree.{Tree};
-ghost use Rattle.cfb_writing.specs.Streams.{resized, IsPastNumbers};
+ghost use Rattle.cfb_stream_writes.specs.Streams.{resized, IsPastNumbers};
 ghost use Rattle.std.specs.Borrow.{sem, RestsIfErr};
 ghost use Rattle.std.specs.Prelude.{false, length, true, IfErr, IfOk, IsErrOf, List, OnErr, OnOk, ℕ, ◌+◌, ◌<◌, ◌^◌, ◌≡◌, ◌⊎◌};
 
 use crate::{CompoundFile, Stream};
 use cfb_medium::{Error, Medium, ReadMedium};
-use cfb_streams::open_stream as find_sectors;
-use cfb_writing::{can_outgrow, find_stream, outgrow_stream, overwrite_stream, resize_stream};
+use cfb_stream_reads::open_stream as find_sectors;
+use cfb_stream_writes::{
+    can_outgrow, find_stream, outgrow_stream, overwrite_stream, resize_stream,
+};
 
 impl<F: ReadMedium> CompoundFile<F> {
     // Finds the entry and the sectors of the stream at a path, and gives the entry's number and how many bytes the stream has.
     // Nothing is read ahead of it yet.
     pub(crate) fn find_written(&mut self, path: &str) -> Result<(u32, u64), Error>
-        ensures rests { FileRests self.old self.new }
+        ensures only_reads { OnlyReadsFile self.old self.new }
         ensures small { IfOk result (λ it. it.1 < 2 ^ 63) }
-        ensures found { (tree : Tree) → (m : FileMeans self.old tree) → IfOk result (λ it.
+        ensures found { (tree : Tree) → (m : FileMeansTree self.old tree) → IfOk result (λ it.
             FindsWritten self.old self.new (names_in path.now) tree it.0 it.1 m.live.who) }
-        ensures refused { (tree : Tree) → FileMeans self.old tree
-            → IfErr result (λ e. IsWant self.old e
-            ⊎ (answer_at (letters_in self.old) tree open_stream (names_in path.now) ≡ refused e)) }
-        ensures failed { has_failed_here (allocator_of (mini_of self.old)) ≡ true
+        ensures refused_only_if { (tree : Tree) → FileMeansTree self.old tree
+            → IfErr result (λ e. IsFileMemoryOrFailed self.old e
+            ⊎ (answer_at (file_case_table self.old) tree open_stream (names_in path.now)
+            ≡ refused e)) }
+        ensures when_failed { has_failed_here (allocator_of (mini_of self.old)) ≡ true
             → IsErrOf result Failed }
         ensures unsound { has_failed_here (allocator_of (mini_of self.old)) ≡ false
             → sound_of self.old ≡ false → IsErrOf result InvalidData }
-        ensures error { IfErr result (λ e. IsWant self.old e ⊎ IsRefusedOpening e) }
+        ensures errors { IfErr result (λ e. IsFileMemoryOrFailed self.old e ⊎ IsOpenStreamError e) }
     {
         match self.check_live() {
             Ok(()) => {}
@@ -70,18 +73,19 @@ impl<F: ReadMedium> CompoundFile<F> {
     /// then `InvalidInput` where the path leads above the root, `NotFound` where no object is there, `InvalidInput` where it is a
     /// storage. The one other error is `Memory`. The file is only read ([MS-CFB] 2.6.3).
     pub fn open_stream(&mut self, path: &str) -> Result<Stream<'_, F>, Error>
-        ensures* rests { sem 𝓛 (RestsIfErr (the_row F.row F.ReadMedium) self.entry
-            (λ s. s.file.ghost_name) result (FileRests self.old)) }
+        ensures* only_reads { sem 𝓛 (RestsIfErr (the_row F.row F.ReadMedium) self.entry
+            (λ s. s.file.ghost_name) result (OnlyReadsFile self.old)) }
         ensures same_reference { IfOk result (λ s.
             s.file.ghost_name ≡ self.entry.ghost_name) }
-        ensures read { IfOk result (λ s. FileRests self.old (file_under s)) }
+        ensures read { IfOk result (λ s. OnlyReadsFile self.old (file_under s)) }
         ensures at_start { IfOk result (λ s. place_of s ≡ 0) }
-        ensures opened { (tree : Tree) → (m : FileMeans self.old tree)
+        ensures opened { (tree : Tree) → (m : FileMeansTree self.old tree)
             → IfOk result (Opens (names_in path.now) self.old tree m.live.who) }
-        ensures refused { (tree : Tree) → FileMeans self.old tree
-            → IfErr result (λ e. IsWant self.old e
-            ⊎ (answer_at (letters_in self.old) tree open_stream (names_in path.now) ≡ refused e)) }
-        ensures failed { has_failed_here (allocator_of (mini_of self.old)) ≡ true
+        ensures refused_only_if { (tree : Tree) → FileMeansTree self.old tree
+            → IfErr result (λ e. IsFileMemoryOrFailed self.old e
+            ⊎ (answer_at (file_case_table self.old) tree open_stream (names_in path.now)
+            ≡ refused e)) }
+        ensures when_failed { has_failed_here (allocator_of (mini_of self.old)) ≡ true
             → IsErrOf result Failed }
         ensures unsound { has_failed_here (allocator_of (mini_of self.old)) ≡ false
             → sound_of self.old ≡ false → IsErrOf result InvalidData }
@@ -97,11 +101,11 @@ impl<F: Medium> CompoundFile<F> {
     // Passes on what the medium keeps back; the stream of so many bytes that was opened stays.
     pub(crate) fn flush_under(&mut self, len: u64) -> Result<(), Error>
         ensures keeps { KeepsStream len self.old self.new }
-        ensures failed { has_failed_here (allocator_of (mini_of self.old)) ≡ true
+        ensures when_failed { has_failed_here (allocator_of (mini_of self.old)) ≡ true
             → IsErrOf result Failed }
-        ensures cause { IfErr result (HasCauseBelow (allocator_of (mini_of self.old))
+        ensures cause { IfErr result (IsJustifiedBySectors (allocator_of (mini_of self.old))
             (allocator_of (mini_of self.new))) }
-        ensures fault { IfErr result (IsFaultUnless ⊥) }
+        ensures errors { IfErr result (IsFaultOrInvalidInputIf ⊥) }
     {
         self.mini.flush()
     }
@@ -113,14 +117,15 @@ impl<F: Medium> CompoundFile<F> {
         ensures past { IsErrOf result InvalidInput → (path : Path) (tree : Tree) (content : List ℕ)
             → StreamIsWritten self.old path tree id content
             → length content < at + length bytes.now }
-        ensures refused { IsErrOf result InvalidData → IsLostAt id self.old }
+        ensures refused_only_if { IsErrOf result InvalidData → IsLostAt id self.old }
         ensures kept { OnErr result ((has_failed_here (allocator_of (mini_of self.new)) ≡ true)
             ⊎ KeepsAt id self.old self.new) }
-        ensures goes_on { GoesOn (allocator_of (mini_of self.old))
+        ensures invariants { KeepsFileInvariants (allocator_of (mini_of self.old))
             (allocator_of (mini_of self.new)) }
-        ensures answers { FatAnswers IsInvalidPlace result (allocator_of (mini_of self.old))
+        ensures error_contract { FatErrorContract IsInvalidPlace result
+            (allocator_of (mini_of self.old))
             (allocator_of (mini_of self.new)) }
-        ensures seen { (letters_in self.new ≡ letters_in self.old)
+        ensures seen { (file_case_table self.new ≡ file_case_table self.old)
             × (sound_of self.new ≡ sound_of self.old)
             × (validation_of self.new ≡ validation_of self.old) }
         ensures most { most_ahead_of self.new ≡ most_ahead_of self.old }
@@ -137,19 +142,20 @@ impl<F: Medium> CompoundFile<F> {
         ensures resized { OnOk result (RewritesAt id (resized len) self.old self.new) }
         ensures large { IsErrOf result InvalidInput
             → stream_len_mask (version_of (allocator_of (mini_of self.old))) < len }
-        ensures refused { IsErrOf result InvalidData → IsLostAt id self.old }
+        ensures refused_only_if { IsErrOf result InvalidData → IsLostAt id self.old }
         ensures kept { OnErr result ((has_failed_here (allocator_of (mini_of self.new)) ≡ true)
             ⊎ KeepsAt id self.old self.new) }
-        ensures full { IsErrOf result Full
+        ensures full_only_if { IsErrOf result Full
             → has_failed_here (allocator_of (mini_of self.new)) ≡ false
             → LacksRoomAt id len self.old }
         ensures spared { IsPastNumbers (version_of (allocator_of (mini_of self.old))) len
             → OnOk result ⊥ × KeepsAt id self.old self.new }
-        ensures goes_on { GoesOn (allocator_of (mini_of self.old))
+        ensures invariants { KeepsFileInvariants (allocator_of (mini_of self.old))
             (allocator_of (mini_of self.new)) }
-        ensures answers { FatAnswers IsInvalidPlaceOrFull result (allocator_of (mini_of self.old))
+        ensures error_contract { FatErrorContract IsInvalidPlaceOrFull result
+            (allocator_of (mini_of self.old))
             (allocator_of (mini_of self.new)) }
-        ensures seen { (letters_in self.new ≡ letters_in self.old)
+        ensures seen { (file_case_table self.new ≡ file_case_table self.old)
             × (sound_of self.new ≡ sound_of self.old)
             × (validation_of self.new ≡ validation_of self.old) }
         ensures most { most_ahead_of self.new ≡ most_ahead_of self.old }
@@ -176,17 +182,18 @@ impl<F: Medium> CompoundFile<F> {
         ensures large { IsErrOf result InvalidInput → (path : Path) (tree : Tree)
             (content : List ℕ) → StreamIsWritten self.old path tree id content
             → stream_len_mask (version_of (allocator_of (mini_of self.old))) < end }
-        ensures refused { IsErrOf result InvalidData → IsLostAt id self.old }
+        ensures refused_only_if { IsErrOf result InvalidData → IsLostAt id self.old }
         ensures kept { OnErr result ((has_failed_here (allocator_of (mini_of self.new)) ≡ true)
             ⊎ KeepsAt id self.old self.new) }
-        ensures full { IsErrOf result Full
+        ensures full_only_if { IsErrOf result Full
             → has_failed_here (allocator_of (mini_of self.new)) ≡ false
             → LacksRoomAt id end self.old }
-        ensures goes_on { GoesOn (allocator_of (mini_of self.old))
+        ensures invariants { KeepsFileInvariants (allocator_of (mini_of self.old))
             (allocator_of (mini_of self.new)) }
-        ensures answers { FatAnswers IsInvalidPlaceOrFull result (allocator_of (mini_of self.old))
+        ensures error_contract { FatErrorContract IsInvalidPlaceOrFull result
+            (allocator_of (mini_of self.old))
             (allocator_of (mini_of self.new)) }
-        ensures seen { (letters_in self.new ≡ letters_in self.old)
+        ensures seen { (file_case_table self.new ≡ file_case_table self.old)
             × (sound_of self.new ≡ sound_of self.old)
             × (validation_of self.new ≡ validation_of self.old) }
         ensures most { most_ahead_of self.new ≡ most_ahead_of self.old }

@@ -1,17 +1,17 @@
 //! A stream's bytes, read and written from a position on.
-ghost use Rattle.cfb.specs.Views.{letters_in, mini_of, most_ahead_of};
+ghost use Rattle.cfb.specs.Views.{file_case_table, mini_of, most_ahead_of};
 ghost use Rattle.cfb_chains.specs.ChainCalls.{IsInvalidPlace};
-ghost use Rattle.cfb_fat.specs.Tables.{has_failed_here, version_of, HasCauseBelow};
+ghost use Rattle.cfb_fat.specs.Tables.{has_failed_here, version_of, IsJustifiedBySectors};
 ghost use Rattle.cfb_medium.specs.Bytes.{overwritten};
-ghost use Rattle.cfb_medium.specs.Calls.{IsFaultUnless};
+ghost use Rattle.cfb_medium.specs.Calls.{IsFaultOrInvalidInputIf};
 ghost use Rattle.cfb_medium.specs.Versions.{stream_len_mask};
 ghost use Rattle.cfb_medium.specs.declared.error.Error.TheVariants.{Failed, Full, InvalidData, InvalidInput};
 ghost use Rattle.cfb_mini.specs.Views.{allocator_of};
-ghost use Rattle.cfb_owned.specs.Chains.{GoesOn, IsInvalidPlaceOrFull};
+ghost use Rattle.cfb_chain_io.specs.ChainEffects.{KeepsFileInvariants, IsInvalidPlaceOrFull};
 ghost use Rattle.cfb_sectors.specs.Seeking.{Finds};
 ghost use Rattle.cfb_tree.specs.Paths.{Path};
 ghost use Rattle.cfb_tree.specs.Tree.{Tree};
-ghost use Rattle.cfb_writing.specs.Streams.{resized, IsPastNumbers};
+ghost use Rattle.cfb_stream_writes.specs.Streams.{resized, IsPastNumbers};
 ghost use Rattle.std.specs.Borrow.{sem};
 ghost use Rattle.std.specs.Prelude.{drop, false, length, min, take, true, IfErr, IfOk, IsErrOf, List, OnErr, OnOk, ℕ, ◌+◌, ◌++◌, ◌-◌, ◌<◌, ◌==◌, ◌^◌, ◌≡◌, ◌≤◌, ◌⊎◌, []};
 ghost use mir.Syntax.{named};
@@ -36,8 +36,8 @@ pub struct Stream<'a, F: ReadMedium> {
 }
 
 impl<'a, F: ReadMedium> Stream<'a, F> {
-    ghost use Rattle.cfb.specs.Streams.{HasStream, KeepsStream};
-    ghost use Rattle.cfb.specs.Writing.{allocator_under, buffered_of, file_under, id_of, place_of, stream_len, StreamFills, IsFaultOrGone, StreamRests, Stands};
+    ghost use Rattle.cfb.specs.Streams.{FileHasStream, KeepsStream};
+    ghost use Rattle.cfb.specs.Writing.{allocator_under, buffered_of, file_under, id_of, place_of, stream_len, StreamFills, IsFaultOrGone, OnlyReadsStream, ClosesToTree};
     ghost use Rattle.cfb.specs.contracts.written_stream.Stream.{the_row};
     ghost use Rattle.std.specs.Io.BufRead.{Rests as Leaves};
 
@@ -73,7 +73,7 @@ impl<'a, F: ReadMedium> Stream<'a, F> {
     // So `read` does, in words of the file.
     fn read_some(&mut self, buffer: &mut [u8]) -> Result<usize, Error>
         ensures read { (content : List ℕ)
-            → HasStream (file_under self.old) (stream_len self.old) content
+            → FileHasStream (file_under self.old) (stream_len self.old) content
             → IfOk result (λ n. take n buffer.new ≡ take n (drop (place_of self.old) content)) }
         ensures rest { IfOk result (λ n. drop n buffer.new ≡ drop n buffer.old) }
         ensures count { IfOk result (λ n. n
@@ -84,11 +84,13 @@ impl<'a, F: ReadMedium> Stream<'a, F> {
             × (id_of self.new ≡ id_of self.old) × (stream_len self.new ≡ stream_len self.old) }
         ensures stays { KeepsStream (stream_len self.old) (file_under self.old)
             (file_under self.new) }
-        ensures cause { IfErr result (HasCauseBelow (allocator_under self.old)
+        ensures cause { IfErr result (IsJustifiedBySectors (allocator_under self.old)
             (allocator_under self.new)) }
-        ensures failed { has_failed_here (allocator_under self.old) ≡ true → IsErrOf result Failed }
-        ensures fault { IfErr result (λ e. IsFaultUnless ⊥ e ⊎ (IsInvalidPlace e
-            × ((content : List ℕ) → HasStream (file_under self.old) (stream_len self.old) content
+        ensures when_failed { has_failed_here (allocator_under self.old) ≡ true
+            → IsErrOf result Failed }
+        ensures errors { IfErr result (λ e. IsFaultOrInvalidInputIf ⊥ e ⊎ (IsInvalidPlace e
+            × ((content : List ℕ)
+            → FileHasStream (file_under self.old) (stream_len self.old) content
             → ⊥))) }
     {
         let count = (self.len - self.position).min(buffer.len() as u64) as usize;
@@ -103,7 +105,7 @@ impl<'a, F: ReadMedium> Stream<'a, F> {
     /// is a fault; after it the position stays, and the buffer holds any bytes.
     pub fn read(&mut self, buffer: &mut [u8]) -> Result<usize, Error>
         ensures read { (path : Path) (tree : Tree) (content : List ℕ)
-            → Stands self.old path tree content → IfOk result (λ n. take n buffer.new
+            → ClosesToTree self.old path tree content → IfOk result (λ n. take n buffer.new
             ≡ take n (drop (place_of self.old) content)) }
         ensures rest { IfOk result (λ n. drop n buffer.new ≡ drop n buffer.old) }
         ensures count { IfOk result (λ n. n ≡ min (stream_len self.old
@@ -112,12 +114,13 @@ impl<'a, F: ReadMedium> Stream<'a, F> {
             ≡ place_of self.old + n) }
         ensures unmoved { OnErr result (place_of self.new
             ≡ place_of self.old) }
-        ensures rests { StreamRests self.old self.new }
-        ensures cause { IfErr result (HasCauseBelow
+        ensures only_reads { OnlyReadsStream self.old self.new }
+        ensures cause { IfErr result (IsJustifiedBySectors
             (allocator_under self.old)
             (allocator_under self.new)) }
-        ensures failed { has_failed_here (allocator_under self.old) ≡ true → IsErrOf result Failed }
-        ensures fault { IfErr result (IsFaultOrGone self.old) }
+        ensures when_failed { has_failed_here (allocator_under self.old) ≡ true
+            → IsErrOf result Failed }
+        ensures errors { IfErr result (IsFaultOrGone self.old) }
     {
         self.read_some(buffer)
     }
@@ -126,7 +129,7 @@ impl<'a, F: ReadMedium> Stream<'a, F> {
     /// earlier fault, before all else; each error of a stream that stands is a fault; after it position and bytes are as they were.
     pub fn read_to_end(&mut self, bytes: &mut Vec<u8>) -> Result<usize, Error>
         ensures read { (path : Path) (tree : Tree) (content : List ℕ)
-            → Stands self.old path tree content → IfOk result (λ n. bytes.new.items
+            → ClosesToTree self.old path tree content → IfOk result (λ n. bytes.new.items
             ≡ bytes.old.items ++ drop (place_of self.old) content) }
         ensures count { IfOk result (λ n.
             n ≡ stream_len self.old - place_of self.old) }
@@ -134,12 +137,13 @@ impl<'a, F: ReadMedium> Stream<'a, F> {
             place_of self.new ≡ stream_len self.old) }
         ensures unmoved { OnErr result ((place_of self.new
             ≡ place_of self.old) × (bytes.new.items ≡ bytes.old.items)) }
-        ensures rests { StreamRests self.old self.new }
-        ensures cause { IfErr result (HasCauseBelow
+        ensures only_reads { OnlyReadsStream self.old self.new }
+        ensures cause { IfErr result (IsJustifiedBySectors
             (allocator_under self.old)
             (allocator_under self.new)) }
-        ensures failed { has_failed_here (allocator_under self.old) ≡ true → IsErrOf result Failed }
-        ensures fault { IfErr result (IsFaultOrGone self.old) }
+        ensures when_failed { has_failed_here (allocator_under self.old) ≡ true
+            → IsErrOf result Failed }
+        ensures errors { IfErr result (IsFaultOrGone self.old) }
     {
         if self.file.is_failed() {
             return Err(Error::Failed);
@@ -165,12 +169,13 @@ impl<'a, F: ReadMedium> Stream<'a, F> {
         ensures some { OnOk result (place_of self.old < stream_len self.old
             → 0 < buffered_of self.new) }
         ensures unmoved { place_of self.new ≡ place_of self.old }
-        ensures rests { StreamRests self.old self.new }
-        ensures cause { IfErr result (HasCauseBelow
+        ensures only_reads { OnlyReadsStream self.old self.new }
+        ensures cause { IfErr result (IsJustifiedBySectors
             (allocator_under self.old)
             (allocator_under self.new)) }
-        ensures failed { has_failed_here (allocator_under self.old) ≡ true → IsErrOf result Failed }
-        ensures fault { IfErr result (IsFaultOrGone self.old) }
+        ensures when_failed { has_failed_here (allocator_under self.old) ≡ true
+            → IsErrOf result Failed }
+        ensures errors { IfErr result (IsFaultOrGone self.old) }
     {
         self.file.read_more(self.position, self.len)
     }
@@ -178,7 +183,7 @@ impl<'a, F: ReadMedium> Stream<'a, F> {
     /// The bytes that were read ahead from the position on: at most so many as the file reads ahead at once.
     pub fn buffer(&self) -> &[u8]
         ensures bytes { (path : Path) (tree : Tree) (content : List ℕ)
-            → Stands self.now path tree content → result.now
+            → ClosesToTree self.now path tree content → result.now
             ≡ take (length result.now) (drop (place_of self.now) content) }
         ensures count { length result.now ≡ buffered_of self.now }
         ensures most { length result.now ≤ most_ahead_of (file_under self.now) }
@@ -192,13 +197,14 @@ impl<'a, F: ReadMedium> Stream<'a, F> {
             (the_row (record { mir = named 1; lft = [] }) F.row F.ReadMedium) self.entry
             (StreamFills result self.old)) }
         ensures bytes { (path : Path) (tree : Tree) (content : List ℕ)
-            → Stands self.old path tree content → IfOk result (λ b. b.now
+            → ClosesToTree self.old path tree content → IfOk result (λ b. b.now
             ≡ take (length b.now) (drop (place_of self.old) content)) }
         ensures most { IfOk result (λ b. length b.now ≤ most_ahead_of (file_under self.old)) }
         ensures some { IfOk result (λ b. length b.now ≡ 0
             → place_of self.old ≡ stream_len self.old) }
-        ensures failed { has_failed_here (allocator_under self.old) ≡ true → IsErrOf result Failed }
-        ensures fault { IfErr result (IsFaultOrGone self.old) }
+        ensures when_failed { has_failed_here (allocator_under self.old) ≡ true
+            → IsErrOf result Failed }
+        ensures errors { IfErr result (IsFaultOrGone self.old) }
     {
         match self.fill() {
             Ok(()) => Ok(self.buffer()),
@@ -211,7 +217,7 @@ impl<'a, F: ReadMedium> Stream<'a, F> {
         requires { place_of self.old + amount ≤ stream_len self.old }
         ensures moved { place_of self.new
             ≡ place_of self.old + amount }
-        ensures rests { StreamRests self.old self.new }
+        ensures only_reads { OnlyReadsStream self.old self.new }
     {
         self.position += amount as u64;
     }
@@ -221,13 +227,14 @@ impl<'a, F: ReadMedium> Stream<'a, F> {
     pub fn seek(&mut self, from: SeekFrom) -> Result<u64, Error>
         ensures ok { IfOk result (λ n. Finds from (stream_len self.old)
             (place_of self.old) n × (place_of self.new ≡ n)) }
-        ensures error { IfErr result (λ e. ((e ≡ Failed)
+        ensures errors { IfErr result (λ e. ((e ≡ Failed)
             × (has_failed_here (allocator_under self.old) ≡ true)) ⊎ ((e ≡ InvalidInput)
             × ((n : ℕ) → Finds from (stream_len self.old) (place_of self.old) n → ⊥))) }
-        ensures failed { has_failed_here (allocator_under self.old) ≡ true → IsErrOf result Failed }
+        ensures when_failed { has_failed_here (allocator_under self.old) ≡ true
+            → IsErrOf result Failed }
         ensures unmoved { OnErr result (place_of self.new
             ≡ place_of self.old) }
-        ensures rests { StreamRests self.old self.new }
+        ensures only_reads { OnlyReadsStream self.old self.new }
     {
         if self.file.is_failed() {
             return Err(Error::Failed);
@@ -241,8 +248,8 @@ impl<'a, F: ReadMedium> Stream<'a, F> {
 }
 
 impl<'a, F: Medium> Stream<'a, F> {
-    ghost use Rattle.cfb.specs.Doing.{FileMeans};
-    ghost use Rattle.cfb.specs.Writing.{allocator_under, file_under, owners_under, place_of, stream_len, StreamChanges, IfStands, IsFullFor, IsLost, StreamKeeps, StreamRests, Rewrites, Stands};
+    ghost use Rattle.cfb.specs.FollowedRules.{FileMeansTree};
+    ghost use Rattle.cfb.specs.Writing.{allocator_under, file_under, owners_under, place_of, stream_len, StreamErrorContract, IfStands, IsFullFor, IsStreamLost, StreamKeeps, OnlyReadsStream, RewritesStream, ClosesToTree};
 
     // Where so many bytes end that are written from the position on.
     fn end_behind(&self, count: usize) -> Result<u64, Error>
@@ -252,7 +259,7 @@ impl<'a, F: Medium> Stream<'a, F> {
             → stream_len_mask (version_of (allocator_under self.now))
             < place_of self.now + count }
         ensures many { IsErrOf result Full → 2 ^ 63 ≤ place_of self.now + count }
-        ensures error { IfErr result (λ e. (e ≡ InvalidInput) ⊎ (e ≡ Full)) }
+        ensures errors { IfErr result (λ e. (e ≡ InvalidInput) ⊎ (e ≡ Full)) }
     {
         let end = self.position.saturating_add(count as u64);
         if end > self.file.version().stream_len_mask() {
@@ -267,17 +274,17 @@ impl<'a, F: Medium> Stream<'a, F> {
     // Writes over bytes of the stream from the position on, which lie in it.
     fn overwrite(&mut self, bytes: &[u8]) -> Result<usize, Error>
         requires { place_of self.old + length bytes.now ≤ stream_len self.old }
-        ensures written { OnOk result (Rewrites
+        ensures written { OnOk result (RewritesStream
             (λ content. overwritten content (place_of self.old) bytes.now) self.old self.new) }
         ensures count { IfOk result (λ n. (n ≡ length bytes.now)
             × (place_of self.new ≡ place_of self.old + n)) }
         ensures unmoved { OnErr result (place_of self.new ≡ place_of self.old) }
-        ensures large { IsErrOf result InvalidInput → IsLost self.old }
-        ensures refused { IsErrOf result InvalidData → IsLost self.old }
+        ensures large { IsErrOf result InvalidInput → IsStreamLost self.old }
+        ensures refused_only_if { IsErrOf result InvalidData → IsStreamLost self.old }
         ensures kept { OnErr result ((has_failed_here (allocator_under self.new) ≡ true)
             ⊎ StreamKeeps self.old self.new) }
         ensures room { IsErrOf result Full → ⊥ }
-        ensures changes { StreamChanges IsInvalidPlaceOrFull result self.old self.new }
+        ensures error_contract { StreamErrorContract IsInvalidPlaceOrFull result self.old self.new }
     {
         let (id, place) = (self.id, self.position);
         if let Err(error) = self.file.overwrite_bytes(id, place, bytes) {
@@ -292,19 +299,20 @@ impl<'a, F: Medium> Stream<'a, F> {
         requires end { end ≡ place_of self.old + length bytes.now }
         requires small { end < 2 ^ 63 }
         requires behind { stream_len self.old < end }
-        ensures written { OnOk result (Rewrites
+        ensures written { OnOk result (RewritesStream
             (λ content. overwritten content (place_of self.old) bytes.now) self.old self.new) }
         ensures count { IfOk result (λ n. (n ≡ length bytes.now)
             × (place_of self.new ≡ place_of self.old + n)) }
         ensures unmoved { OnErr result (place_of self.new ≡ place_of self.old) }
         ensures large { IsErrOf result InvalidInput → IfStands self.old
             (stream_len_mask (version_of (allocator_under self.old)) < end) }
-        ensures refused { IsErrOf result InvalidData → IsLost self.old }
+        ensures refused_only_if { IsErrOf result InvalidData → IsStreamLost self.old }
         ensures kept { OnErr result ((has_failed_here (allocator_under self.new) ≡ true)
             ⊎ StreamKeeps self.old self.new) }
-        ensures full { IsErrOf result Full → has_failed_here (allocator_under self.new) ≡ false
+        ensures full_only_if { IsErrOf result Full
+            → has_failed_here (allocator_under self.new) ≡ false
             → IsFullFor self.old end }
-        ensures changes { StreamChanges IsInvalidPlaceOrFull result self.old self.new }
+        ensures error_contract { StreamErrorContract IsInvalidPlaceOrFull result self.old self.new }
     {
         let (id, place) = (self.id, self.position);
         if let Err(error) = self.file.extend_bytes(id, place, bytes, end) {
@@ -321,7 +329,7 @@ impl<'a, F: Medium> Stream<'a, F> {
     /// other errors of a stream that stands are `Memory`, `Device`, and `Failed` after an earlier fault. `InvalidInput` changes
     /// nothing; after another error nothing is changed, or the file has failed ([MS-CFB] 2.6.3).
     pub fn write(&mut self, bytes: &[u8]) -> Result<usize, Error>
-        ensures written { OnOk result (Rewrites
+        ensures written { OnOk result (RewritesStream
             (λ content. overwritten content (place_of self.old) bytes.now) self.old self.new) }
         ensures count { IfOk result (λ n. (n ≡ length bytes.now)
             × (place_of self.new ≡ place_of self.old + n)) }
@@ -330,12 +338,13 @@ impl<'a, F: Medium> Stream<'a, F> {
             (stream_len_mask (version_of (allocator_under self.old))
             < place_of self.old + length bytes.now) }
         ensures unchanged { IsErrOf result InvalidInput → StreamKeeps self.old self.new }
-        ensures refused { IsErrOf result InvalidData → IsLost self.old }
+        ensures refused_only_if { IsErrOf result InvalidData → IsStreamLost self.old }
         ensures kept { OnErr result ((has_failed_here (allocator_under self.new) ≡ true)
             ⊎ StreamKeeps self.old self.new) }
-        ensures full { IsErrOf result Full → has_failed_here (allocator_under self.new) ≡ false
+        ensures full_only_if { IsErrOf result Full
+            → has_failed_here (allocator_under self.new) ≡ false
             → IsFullFor self.old (place_of self.old + length bytes.now) }
-        ensures changes { StreamChanges IsInvalidPlaceOrFull result self.old self.new }
+        ensures error_contract { StreamErrorContract IsInvalidPlaceOrFull result self.old self.new }
     {
         if self.file.is_failed() {
             return Err(Error::Failed);
@@ -353,20 +362,21 @@ impl<'a, F: Medium> Stream<'a, F> {
     /// Makes the stream so many bytes long: it keeps its first bytes, and has zeros behind them. A position behind its end moves to
     /// the end. Errors are those of `write`; a size for which no file has numbers of sectors changes nothing ([MS-CFB] 2.2, 2.6.3).
     pub fn set_len(&mut self, len: u64) -> Result<(), Error>
-        ensures resized { OnOk result (Rewrites (resized len) self.old self.new) }
+        ensures resized { OnOk result (RewritesStream (resized len) self.old self.new) }
         ensures moved { OnOk result (place_of self.new ≡ min len (place_of self.old)) }
         ensures unmoved { OnErr result (place_of self.new ≡ place_of self.old) }
         ensures large { IsErrOf result InvalidInput
             → stream_len_mask (version_of (allocator_under self.old)) < len }
         ensures unchanged { IsErrOf result InvalidInput → StreamKeeps self.old self.new }
-        ensures refused { IsErrOf result InvalidData → IsLost self.old }
+        ensures refused_only_if { IsErrOf result InvalidData → IsStreamLost self.old }
         ensures kept { OnErr result ((has_failed_here (allocator_under self.new) ≡ true)
             ⊎ StreamKeeps self.old self.new) }
-        ensures full { IsErrOf result Full → has_failed_here (allocator_under self.new) ≡ false
+        ensures full_only_if { IsErrOf result Full
+            → has_failed_here (allocator_under self.new) ≡ false
             → IsFullFor self.old len }
         ensures spared { IsPastNumbers (version_of (allocator_under self.old)) len
             → OnOk result ⊥ × StreamKeeps self.old self.new }
-        ensures changes { StreamChanges IsInvalidPlaceOrFull result self.old self.new }
+        ensures error_contract { StreamErrorContract IsInvalidPlaceOrFull result self.old self.new }
     {
         if self.file.is_failed() {
             return Err(Error::Failed);
@@ -383,19 +393,20 @@ impl<'a, F: Medium> Stream<'a, F> {
     // Makes the stream so many bytes long.
     fn resize(&mut self, len: u64) -> Result<(), Error>
         requires { len < 2 ^ 63 }
-        ensures resized { OnOk result (Rewrites (resized len) self.old self.new) }
+        ensures resized { OnOk result (RewritesStream (resized len) self.old self.new) }
         ensures moved { OnOk result (place_of self.new ≡ min len (place_of self.old)) }
         ensures unmoved { OnErr result (place_of self.new ≡ place_of self.old) }
         ensures large { IsErrOf result InvalidInput
             → stream_len_mask (version_of (allocator_under self.old)) < len }
-        ensures refused { IsErrOf result InvalidData → IsLost self.old }
+        ensures refused_only_if { IsErrOf result InvalidData → IsStreamLost self.old }
         ensures kept { OnErr result ((has_failed_here (allocator_under self.new) ≡ true)
             ⊎ StreamKeeps self.old self.new) }
-        ensures full { IsErrOf result Full → has_failed_here (allocator_under self.new) ≡ false
+        ensures full_only_if { IsErrOf result Full
+            → has_failed_here (allocator_under self.new) ≡ false
             → IsFullFor self.old len }
         ensures spared { IsPastNumbers (version_of (allocator_under self.old)) len
             → OnOk result ⊥ × StreamKeeps self.old self.new }
-        ensures changes { StreamChanges IsInvalidPlaceOrFull result self.old self.new }
+        ensures error_contract { StreamErrorContract IsInvalidPlaceOrFull result self.old self.new }
     {
         let id = self.id;
         if let Err(error) = self.file.resize_bytes(id, len) {
@@ -409,12 +420,13 @@ impl<'a, F: Medium> Stream<'a, F> {
     /// Passes on what the medium keeps back, and publishes nothing; the stream is as it was, also after an error. `Failed` after an
     /// earlier fault; the other errors are `Memory` and `Device`.
     pub fn flush(&mut self) -> Result<(), Error>
-        ensures rests { StreamRests self.old self.new }
+        ensures only_reads { OnlyReadsStream self.old self.new }
         ensures unmoved { place_of self.new ≡ place_of self.old }
-        ensures failed { has_failed_here (allocator_under self.old) ≡ true → IsErrOf result Failed }
-        ensures cause { IfErr result (HasCauseBelow (allocator_under self.old)
+        ensures when_failed { has_failed_here (allocator_under self.old) ≡ true
+            → IsErrOf result Failed }
+        ensures cause { IfErr result (IsJustifiedBySectors (allocator_under self.old)
             (allocator_under self.new)) }
-        ensures fault { IfErr result (IsFaultUnless ⊥) }
+        ensures errors { IfErr result (IsFaultOrInvalidInputIf ⊥) }
     {
         let len = self.len;
         self.file.flush_under(len)
@@ -424,10 +436,10 @@ impl<'a, F: Medium> Stream<'a, F> {
     pub fn close(self) -> Result<(), Error>
         ensures left { self.exit.0.now ≡ file_under self.entry }
         ensures closed { OnOk result ((path : Path) (tree : Tree) (content : List ℕ)
-            → (s : Stands self.entry path tree content)
-            → (m : FileMeans self.exit.0.now tree) × (m.live.who ≡ owners_under s)) }
-        ensures live { OnOk result (has_failed_here (allocator_under self.entry) ≡ false) }
-        ensures failed { IfErr result (λ e. (e ≡ Failed)
+            → (s : ClosesToTree self.entry path tree content)
+            → (m : FileMeansTree self.exit.0.now tree) × (m.live.who ≡ owners_under s)) }
+        ensures not_failed { OnOk result (has_failed_here (allocator_under self.entry) ≡ false) }
+        ensures when_failed { IfErr result (λ e. (e ≡ Failed)
             × (has_failed_here (allocator_under self.entry) ≡ true)) }
     {
         let Stream {

@@ -10,19 +10,19 @@ use Rattle.cfb_medium.specs.Versions.{sector_len}
 use Rattle.cfb_sectors.specs.Sectors.{end_of_chain, filled_part, joined, sector_start, Chain as IsChain}
 use Rattle.cfb_sectors.proofs.Chains.{chain_from}
 use Rattle.cfb_sectors.proofs.OneChain.{chain_unique}
-use Rattle.cfb_chains.specs.Changes.{AreAmong, StayBut}
-use Rattle.cfb_chains.specs.Grown.{AreWritable, IsLinked}
-use Rattle.cfb_chains.specs.Changes.{DifferAt, IsNoneOf}
+use Rattle.cfb_chains.specs.Changes.{AreSubsetOf, SameExceptAt}
+use Rattle.cfb_chains.specs.Grown.{AreSectorsWritable, IsChainInTable}
+use Rattle.cfb_chains.specs.Changes.{DifferOnlyAt, IsNotIn}
 use Rattle.cfb_chains.proofs.ChainGrowing.{chain_goes_on, chain_once}
 
 -- sectors at the end of a list are among it
-among_end : (s : List ℕ) (m : ℕ) → AreAmong s (drop m s)
+among_end : (s : List ℕ) (m : ℕ) → AreSubsetOf s (drop m s)
 among_end s m n none k below same =
     let size = length-drop m s in
     none (m + k) (omega (arith, below, size)) (sym (get_or-drop m s k 0) ∙ same)
 
 module _ (old new s ids : List ℕ) (m last : ℕ) (inside : suc m ≤ length s) (is_last : last ≡ get_or s m 0) (was : IsChain old last (last ∷ ids))
-    (ends : slice_index new last ≡ end_of_chain) (differ : DifferAt (last ∷ ids) old new) (linked : IsLinked old s) where
+    (ends : slice_index new last ≡ end_of_chain) (differ : DifferOnlyAt (last ∷ ids) old new) (linked : IsChainInTable old s) where
   abbrev start : ℕ
   start = slice_index_or s 0 end_of_chain
 
@@ -36,18 +36,18 @@ module _ (old new s ids : List ℕ) (m last : ℕ) (inside : suc m ≤ length s)
       let parts : last ∷ ids ≡ get_or s m 0 ∷ drop (suc m) s = behind ∙ drop-cons s m 0 (omega (arith, inside)) in
       cc
 
-  pub changed_are_mine : AreAmong s (last ∷ ids)
-  changed_are_mine = subst (AreAmong s) (sym behind) (among_end s m)
+  pub changed_are_mine : AreSubsetOf s (last ∷ ids)
+  changed_are_mine = subst (AreSubsetOf s) (sym behind) (among_end s m)
 
-  others : (k : ℕ) → k < length (take m s) → IsNoneOf (last ∷ ids) (get_or (take m s) k 0)
-  others k below = subst (λ xs. IsNoneOf xs (get_or (take m s) k 0)) (sym behind) (λ j j_below same.
+  others : (k : ℕ) → k < length (take m s) → IsNotIn (last ∷ ids) (get_or (take m s) k 0)
+  others k below = subst (λ xs. IsNotIn xs (get_or (take m s) k 0)) (sym behind) (λ j j_below same.
       let cut = length-take m s in
       let few : k < m = omega (arith, below, cut) in
       let size = length-drop m s in
       let twice = chain_once old start s linked (m + j) k (omega (arith, j_below, size)) (omega (arith, few, inside)) (sym (get_or-drop m s j 0) ∙ same ∙ get_or-take m s k 0 few) in
       omega (arith, twice, few))
 
-  stay : StayBut (last ∷ ids) old new
+  stay : SameExceptAt (last ∷ ids) old new
   stay = record { size = let same = differ.size in omega (arith, same); others = λ n below none. differ.others n none }
 
   ended : IsChain new last (last ∷ [])
@@ -67,23 +67,23 @@ same_start [] m = refl
 same_start (x ∷ s) m = refl
 
 pub front_stays : (old new s ids : List ℕ) (m last : ℕ) → suc m ≤ length s → last ≡ get_or s m 0 → IsChain old last (last ∷ ids) → slice_index new last ≡ end_of_chain
-    → DifferAt (last ∷ ids) old new → IsLinked old s → IsLinked new (take (suc m) s)
+    → DifferOnlyAt (last ∷ ids) old new → IsChainInTable old s → IsChainInTable new (take (suc m) s)
 front_stays old new s ids m last inside is_last was ends differ linked =
     subst (λ x. IsChain new x (take (suc m) s)) (sym (same_start s m)) (front_linked old new s ids m last inside is_last was ends differ linked)
 
 -- the last sector that is kept has a chain in the table, of those behind it
-pub is_cut : (old s : List ℕ) (m last : ℕ) → suc m ≤ length s → last ≡ get_or s m 0 → IsLinked old s → IsChain old last (last ∷ drop (suc m) s)
+pub is_cut : (old s : List ℕ) (m last : ℕ) → suc m ≤ length s → last ≡ get_or s m 0 → IsChainInTable old s → IsChain old last (last ∷ drop (suc m) s)
 is_cut old s m last inside is_last linked =
     let here = chain_from old (slice_index_or s 0 end_of_chain) s m 0 (omega (arith, inside)) linked in
     subst (λ x. IsChain old x (x ∷ drop (suc m) s)) (sym is_last) (subst (IsChain old (get_or s m 0)) (drop-cons s m 0 (omega (arith, inside))) here)
 
-pub writable_front : (may then : ℕ → ℕ → Type 0) (v : Version) (count : ℕ) (ids : List ℕ) → ((place n : ℕ) → may place n → then place n) → AreWritable may v ids → AreWritable then v (take count ids)
+pub writable_front : (may then : ℕ → ℕ → Type 0) (v : Version) (count : ℕ) (ids : List ℕ) → ((place n : ℕ) → may place n → then place n) → AreSectorsWritable may v ids → AreSectorsWritable then v (take count ids)
 writable_front may then v zero ids still all = tt
 writable_front may then v (suc count) [] still all = tt
 writable_front may then v (suc count) (x ∷ ids) still all = (still _ _ all.0, writable_front may then v count ids still all.1)
 
 pub front_bytes : (may : ℕ → ℕ → Type 0) (v : Version) (old new : List ℕ) (count : ℕ) (ids : List ℕ) → ((place n : ℕ) → may place n → filled_part new place n ≡ filled_part old place n)
-    → AreWritable may v ids → joined v new (take count ids) ≡ joined v old (take count ids)
+    → AreSectorsWritable may v ids → joined v new (take count ids) ≡ joined v old (take count ids)
 front_bytes may v old new zero ids same all = refl
 front_bytes may v old new (suc count) [] same all = refl
 front_bytes may v old new (suc count) (x ∷ ids) same all =

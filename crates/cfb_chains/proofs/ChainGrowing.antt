@@ -15,14 +15,14 @@ use Rattle.cfb_sectors.specs.declared.initial.NewSector.{NewSector}
 use Rattle.cfb_sectors.specs.Sectors.{end_of_chain, filled_part, free, joined, sector, sector_start, Chain as IsChain}
 use Rattle.cfb_sectors.proofs.Chains.{chain_from}
 use Rattle.cfb_sectors.proofs.OneChain.{chain_unique}
-use Rattle.cfb_chains.specs.Changes.{AreAmong, IsFreeIn, StayBut}
-use Rattle.cfb_chains.specs.Grown.{AreWritable, IsLinked}
-use Rattle.cfb_chains.specs.Changes.{AreOnce, IsBeside, IsNoneOf}
+use Rattle.cfb_chains.specs.Changes.{AreSubsetOf, IsFreeIn, SameExceptAt}
+use Rattle.cfb_chains.specs.Grown.{AreSectorsWritable, IsChainInTable}
+use Rattle.cfb_chains.specs.Changes.{AreDistinct, IsBeside, IsNotIn}
 use Rattle.cfb_chains.specs.Positions.{left_in, place_in}
 use Rattle.cfb_chains.proofs.Staying.{apart, goes_on}
 
 -- a chain goes through no free sector, and through none behind the table
-pub in_use : (table : List ℕ) (start : ℕ) (ids : List ℕ) (n : ℕ) → IsChain table start ids → IsFreeIn table n → IsNoneOf ids n
+pub in_use : (table : List ℕ) (start : ℕ) (ids : List ℕ) (n : ℕ) → IsChain table start ids → IsFreeIn table n → IsNotIn ids n
 in_use table start [] n chain is k below same = absurd (omega arith)
 in_use table start (x ∷ ids) n (is, regular, next, found, rest) loose zero below same =
     let here : slice_get table n ≡ Some next = subst (λ s. slice_get table s ≡ Some next) (sym is ∙ same) found in
@@ -36,25 +36,25 @@ in_use table start (x ∷ ids) n (is, regular, next, found, rest) loose zero bel
 in_use table start (x ∷ ids) n (is, regular, next, found, rest) loose (suc k) below same = in_use table next ids n rest loose k (omega arith) same
 
 -- an entry that stays
-pub kept_entry : (entries old new : List ℕ) → StayBut entries old new → (n next : ℕ) → IsNoneOf entries n → slice_get old n ≡ Some next → slice_get new n ≡ Some next
+pub kept_entry : (entries old new : List ℕ) → SameExceptAt entries old new → (n next : ℕ) → IsNotIn entries n → slice_get old n ≡ Some next → slice_get new n ≡ Some next
 kept_entry entries old new stay n next none found =
     let below = slice_get_within old n next found in
     slice_get-get_or new n 0 (omega (arith, below, stay.size)) ∙ ap Some (stay.others n below none ∙ get_or_from_slice_get old n next 0 found)
 
 -- the chain of all but the last sector leads to the last one's new chain
-pub chain_goes_on : (entries old new : List ℕ) → StayBut entries old new → (start : ℕ) (front tail rest : List ℕ) (last : ℕ) → ((k : ℕ) → k < length front → IsNoneOf entries (get_or front k 0))
+pub chain_goes_on : (entries old new : List ℕ) → SameExceptAt entries old new → (start : ℕ) (front tail rest : List ℕ) (last : ℕ) → ((k : ℕ) → k < length front → IsNotIn entries (get_or front k 0))
     → IsChain old start (front ++ last ∷ tail) → IsChain new last (last ∷ rest) → IsChain new start (front ++ last ∷ rest)
 chain_goes_on entries old new stay start [] tail rest last none chain goes = subst (λ s. IsChain new s (last ∷ rest)) chain.0 goes
 chain_goes_on entries old new stay start (x ∷ front) tail rest last none (is, regular, next, found, more) goes = (
   is,
   regular,
   next,
-  kept_entry entries old new stay start next (subst (IsNoneOf entries) is (none 0 (omega arith))) found,
+  kept_entry entries old new stay start next (subst (IsNotIn entries) is (none 0 (omega arith))) found,
   chain_goes_on entries old new stay next front tail rest last (λ k below. none (suc k) (omega arith)) more goes,
 )
 
 -- no sector stands twice in a chain
-pub chain_once : (table : List ℕ) (start : ℕ) (ids : List ℕ) → IsChain table start ids → AreOnce ids
+pub chain_once : (table : List ℕ) (start : ℕ) (ids : List ℕ) → IsChain table start ids → AreDistinct ids
 chain_once table start ids chain k l k_below l_below same =
     let first = chain_from table start ids k 0 k_below chain in
     let second = chain_from table start ids l 0 l_below chain in
@@ -70,7 +70,7 @@ lone [] x y e = (refl, cc)
 lone (z ∷ xs) x y e = let size : suc (length (xs ++ x ∷ [])) ≡ 1 = ap length e in absurd (omega (arith, simp length-append at size))
 
 -- the last number of a list and one behind it are among that list with it
-among_last : (ids : List ℕ) (m n at : ℕ) → suc m ≡ length ids → at ≡ get_or ids m 0 → AreAmong (ids ++ n ∷ []) (at ∷ n ∷ [])
+among_last : (ids : List ℕ) (m n at : ℕ) → suc m ≡ length ids → at ≡ get_or ids m 0 → AreSubsetOf (ids ++ n ∷ []) (at ∷ n ∷ [])
 among_last ids m n at size is x none zero below same =
     none m (simp length-append (omega (arith, size))) (get_or_append_left ids (n ∷ []) 0 m (omega (arith, size)) ∙ sym is ∙ same)
 among_last ids m n at size is x none (suc zero) below same =
@@ -89,7 +89,7 @@ last_alone table ids m last start size is_last chain =
 
 -- the chain of a list is that of the list with its last sector apart
 module _ (old new ids found : List ℕ) (m n last at : ℕ) (size : suc m ≡ length ids) (is_last : last ≡ get_or ids m 0)
-    (was : IsChain old last (found ++ at ∷ [])) (goes : IsChain new last (found ++ at ∷ n ∷ [])) (stay : StayBut (at ∷ n ∷ []) old new) (loose : IsFreeIn old n) where
+    (was : IsChain old last (found ++ at ∷ [])) (goes : IsChain new last (found ++ at ∷ n ∷ [])) (stay : SameExceptAt (at ∷ n ∷ []) old new) (loose : IsFreeIn old n) where
   module _ (start : ℕ) (chain : IsChain old start ids) where
     only : found ++ at ∷ [] ≡ last ∷ []
     only =
@@ -105,7 +105,7 @@ module _ (old new ids found : List ℕ) (m n last at : ℕ) (size : suc m ≡ le
         let short : IsChain new last (at ∷ n ∷ []) = subst (λ f. IsChain new last (f ++ at ∷ n ∷ [])) apart.0 goes in
         subst (λ s. IsChain new s (s ∷ n ∷ [])) is_last (subst (λ x. IsChain new last (x ∷ n ∷ [])) apart.1 short)
 
-    others : (k : ℕ) → k < length (take m ids) → IsNoneOf (at ∷ n ∷ []) (get_or (take m ids) k 0)
+    others : (k : ℕ) → k < length (take m ids) → IsNotIn (at ∷ n ∷ []) (get_or (take m ids) k 0)
     others k below j j_below same =
         let few : k < m = let cut = length-take m ids in omega (arith, below, cut) in
         let here : get_or (take m ids) k 0 ≡ get_or ids k 0 = get_or-take m ids k 0 few in
@@ -128,8 +128,8 @@ first_stays [] m n size = absurd (omega (arith, size))
 first_stays (x ∷ ids) m n size = refl
 
 pub extended : (old new ids found : List ℕ) (m n last at : ℕ) → suc m ≡ length ids → last ≡ get_or ids m 0
-    → IsChain old last (found ++ at ∷ []) → IsChain new last (found ++ at ∷ n ∷ []) → StayBut (at ∷ n ∷ []) old new → IsFreeIn old n
-    → IsLinked old ids → IsLinked new (ids ++ n ∷ []) × AreAmong (ids ++ n ∷ []) (at ∷ n ∷ [])
+    → IsChain old last (found ++ at ∷ []) → IsChain new last (found ++ at ∷ n ∷ []) → SameExceptAt (at ∷ n ∷ []) old new → IsFreeIn old n
+    → IsChainInTable old ids → IsChainInTable new (ids ++ n ∷ []) × AreSubsetOf (ids ++ n ∷ []) (at ∷ n ∷ [])
 extended old new ids found m n last at size is_last was goes stay loose linked =
     let start = slice_index_or ids 0 end_of_chain in (
       subst (λ s. IsChain new s (ids ++ n ∷ [])) (sym (first_stays ids m n size)) (chain_longer old new ids found m n last at size is_last was goes stay loose start linked),
@@ -138,31 +138,31 @@ extended old new ids found m n last at size is_last was goes stay loose linked =
 
 -- sectors that may be written, and one more
 pub writable_more : (may then : ℕ → ℕ → Type 0) (v : Version) (ids : List ℕ) (n : ℕ) → ((place count : ℕ) → may place count → then place count)
-    → then (sector_start v n) (sector_len v) → AreWritable may v ids → AreWritable then v (ids ++ n ∷ [])
+    → then (sector_start v n) (sector_len v) → AreSectorsWritable may v ids → AreSectorsWritable then v (ids ++ n ∷ [])
 writable_more may then v [] n still one all = (one, tt)
 writable_more may then v (x ∷ ids) n still one all = (still _ _ all.0, writable_more may then v ids n still one all.1)
 
 -- their bytes stay, where those beside the one taken do
 bytes_before : (may : ℕ → ℕ → Type 0) (v : Version) (old new ids : List ℕ) (n : ℕ)
     → ((place count : ℕ) → may place count → IsBeside v (n ∷ []) place count → filled_part new place count ≡ filled_part old place count)
-    → AreWritable may v ids → IsNoneOf ids n → joined v new ids ≡ joined v old ids
+    → AreSectorsWritable may v ids → IsNotIn ids n → joined v new ids ≡ joined v old ids
 bytes_before may v old new [] n same all none = refl
 bytes_before may v old new (x ∷ ids) n same all none =
     ap (λ l. l ++ joined v new ids) (same (sector_start v x) (sector_len v) all.0 (apart v (n ∷ []) x (other x ids none)))
     ∙ ap (λ l. filled_part old (sector_start v x) (sector_len v) ++ l) (bytes_before may v old new ids n same all.1 (λ k below. none (suc k) (omega arith)))
   where
-    other : (x : ℕ) (ids : List ℕ) → IsNoneOf (x ∷ ids) n → IsNoneOf (n ∷ []) x
+    other : (x : ℕ) (ids : List ℕ) → IsNotIn (x ∷ ids) n → IsNotIn (n ∷ []) x
     other x ids none zero below is = none 0 (omega arith) (sym is)
     other x ids none (suc k) below is = absurd (omega arith)
 
 pub bytes_more : (may : ℕ → ℕ → Type 0) (v : Version) (old new ids fill : List ℕ) (n : ℕ)
     → ((place count : ℕ) → may place count → IsBeside v (n ∷ []) place count → filled_part new place count ≡ filled_part old place count)
-    → AreWritable may v ids → IsNoneOf ids n → sector v new n ≡ fill → joined v new (ids ++ n ∷ []) ≡ joined v old ids ++ fill
+    → AreSectorsWritable may v ids → IsNotIn ids n → sector v new n ≡ fill → joined v new (ids ++ n ∷ []) ≡ joined v old ids ++ fill
 bytes_more may v old new ids fill n same all none filled =
     flat_map-append (sector v new) ids (n ∷ []) ∙ ap (λ l. joined v new ids ++ l) (append-nil (sector v new n) ∙ filled)
     ∙ ap (λ l. l ++ fill) (bytes_before may v old new ids n same all none)
 
-pub writable_still : (may then : ℕ → ℕ → Type 0) (v : Version) (ids : List ℕ) → ((place count : ℕ) → may place count → then place count) → AreWritable may v ids → AreWritable then v ids
+pub writable_still : (may then : ℕ → ℕ → Type 0) (v : Version) (ids : List ℕ) → ((place count : ℕ) → may place count → then place count) → AreSectorsWritable may v ids → AreSectorsWritable then v ids
 writable_still may then v [] still all = tt
 writable_still may then v (x ∷ ids) still all = (still _ _ all.0, writable_still may then v ids still all.1)
 
@@ -210,12 +210,12 @@ room_behind may v w ids count position at size in_part same_version same_positio
     subst (λ u. may (place_in u ids at) (min size (left_in u at))) (sym same_version) (subst (λ k. may (place_in v ids k) (min size (left_in v k))) (sym same_position) here)
 
 -- none of both is none of either
-pub among_both : (all xs ys : List ℕ) → AreAmong all xs → AreAmong all ys → AreAmong all (xs ++ ys)
+pub among_both : (all xs ys : List ℕ) → AreSubsetOf all xs → AreSubsetOf all ys → AreSubsetOf all (xs ++ ys)
 among_both all xs ys first second n none k below same =
     ⊎_elim (λ behind. second n none (k - length xs) (let size : length (xs ++ ys) ≡ length xs + length ys = simp length-append in omega (arith, below, size, behind.1)) (sym (get_or-append_right xs ys k 0 behind.1) ∙ same))
     (λ within. first n none k within.1 (sym (get_or_append_left xs ys 0 k within.1) ∙ same)) (leb_tells (length xs) k)
 
-pub among_more : (all more xs : List ℕ) → AreAmong all xs → AreAmong (all ++ more) xs
+pub among_more : (all more xs : List ℕ) → AreSubsetOf all xs → AreSubsetOf (all ++ more) xs
 among_more all more xs h n none = h n (λ k below same. none k (simp length-append (omega (arith, below))) (get_or_append_left all more 0 k below ∙ same))
 
 pub ends_here : {W R X : Type 0} → W ⊎ R → W ⊎ R ⊎ X

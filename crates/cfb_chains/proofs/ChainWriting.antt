@@ -8,7 +8,7 @@ use Rattle.cfb_medium.specs.declared.version.Version.TheVariants.{V3, V4}
 use Rattle.cfb_medium.specs.Versions.{sector_len}
 use Rattle.cfb_sectors.specs.Sectors.{joined, sector, sector_start}
 use Rattle.cfb_sectors.proofs.Counts.{longest}
-use Rattle.cfb_chains.specs.Changes.{AreOnce}
+use Rattle.cfb_chains.specs.Changes.{AreDistinct}
 use Rattle.cfb_chains.specs.Positions.{left_in, place_in, tail_in}
 use Rattle.cfb_chains.proofs.ChainParts.{chain_part}
 use Rattle.cfb_chains.proofs.Overwriting.{get_before, get_behind, get_filled, get_written}
@@ -63,7 +63,7 @@ length_within b (x ∷ xs) at within = simp (length-append, length-take, length-
 aside : (b xs : List ℕ) (at k : ℕ) → (k < at) ⊎ (at + length xs ≤ k) → get_or (overwritten b at xs) k 0 ≡ get_or b k 0
 aside b xs at k apart = ⊎_elim (λ before. get_before b at xs k before) (λ behind. get_behind b at xs k behind) apart
 
-module _ (v : Version) (b ids xs : List ℕ) (i o : ℕ) (below : i < length ids) (fits : o + length xs ≤ sector_len v) (once : AreOnce ids) where
+module _ (v : Version) (b ids xs : List ℕ) (i o : ℕ) (below : i < length ids) (fits : o + length xs ≤ sector_len v) (once : AreDistinct ids) where
   abbrev at : ℕ
   at = sector_start v (get_or ids i 0) + o
 
@@ -127,7 +127,7 @@ module _ (v : Version) (b ids xs : List ℕ) (i o : ℕ) (below : i < length ids
           room V4 i o n m below fits = omega arith
 
 -- what was written in the sector at a position
-pub written_at : (v : Version) (b after ids xs : List ℕ) (position place : ℕ) → position < length ids * sector_len v → length xs ≤ left_in v position → AreOnce ids
+pub written_at : (v : Version) (b after ids xs : List ℕ) (position place : ℕ) → position < length ids * sector_len v → length xs ≤ left_in v position → AreDistinct ids
     → place ≡ place_in v ids position → after ≡ overwritten b place xs → joined v after ids ≡ overwritten (joined v b ids) position xs
 written_at v b after ids xs position place inside fits once at is =
     let parts = split v position in

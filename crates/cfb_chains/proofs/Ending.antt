@@ -1,7 +1,7 @@
 -- The end of a chain in a table.
 use Rattle.std.proofs.Common.{◌≡◌, ℕ, ◌+◌, ◌<◌, ◌-◌, List, [], ◌∷◌, ◌++◌, length, take, get_or, refl, ap, sym, subst, ◌∙◌, arith, length-append}
 use Rattle.cfb_sectors.specs.Sectors.{end_of_chain, Chain as IsChain}
-use Rattle.cfb_chains.specs.Grown.{IsLinked}
+use Rattle.cfb_chains.specs.Grown.{IsChainInTable}
 use Rattle.cfb_chains.proofs.ChainGrowing.{but_last, last_alone, sector_behind}
 
 -- a chain from any number but "end of chain" has a last sector
@@ -24,7 +24,7 @@ ends_alone table start [] last n (is, regular, next, found, rest) = subst (λ s.
 ends_alone table start (x ∷ ids) last n (is, regular, next, found, rest) = ends_alone table next ids last n rest
 
 -- where a table has a chain, it has one from its last sector on
-pub has_end : (table ids : List ℕ) → IsLinked table ids → 0 < length ids → (front : List ℕ) × (last : ℕ) × IsChain table (get_or ids (length ids - 1) 0) (front ++ last ∷ [])
+pub has_end : (table ids : List ℕ) → IsChainInTable table ids → 0 < length ids → (front : List ℕ) × (last : ℕ) × IsChain table (get_or ids (length ids - 1) 0) (front ++ last ∷ [])
 has_end table ids linked some = ([], get_or ids (length ids - 1) 0, (last_alone table ids (length ids - 1) (get_or ids (length ids - 1) 0) _ (omega (arith, some)) refl linked).1)
 
 -- the last of a list with a number behind it

@@ -10,14 +10,14 @@ use Rattle.cfb_medium.specs.Versions.{sector_len}
 use Rattle.cfb_medium.specs.declared.version.Version.{Version}
 use Rattle.cfb_medium.specs.declared.version.Version.TheVariants.{V3, V4}
 use Rattle.cfb_sectors.specs.Sectors.{Chain as IsChain}
-use Rattle.cfb_chains.specs.Changes.{IsFreeIn, IsNoneOf, StayBut}
-use Rattle.cfb_chains.specs.Grown.{IsLinked}
+use Rattle.cfb_chains.specs.Changes.{IsFreeIn, IsNotIn, SameExceptAt}
+use Rattle.cfb_chains.specs.Grown.{IsChainInTable}
 use Rattle.cfb_chains.specs.Positions.{sectors_for}
 use Rattle.cfb_chains.proofs.Beside.{none_of_two, used_but}
 use Rattle.cfb_chains.proofs.ChainGrowing.{but_last, chain_goes_on, chain_once, in_use}
 
 module _ (old mid new ids : List ℕ) (start last n : ℕ) (was : IsChain old start (ids ++ last ∷ [])) (loose : IsFreeIn old n)
-    (stay : StayBut (n ∷ []) old mid) (one : IsChain mid n (n ∷ [])) (is : new ≡ set mid last n) where
+    (stay : SameExceptAt (n ∷ []) old mid) (one : IsChain mid n (n ∷ [])) (is : new ≡ set mid last n) where
   place : get_or (ids ++ last ∷ []) (length ids) 0 ≡ last
   place = let none : length ids - length ids ≡ 0 = omega arith in get_or-append_right ids (last ∷ []) (length ids) 0 (omega arith) ∙ ap (λ i. get_or (last ∷ []) i 0) none
 
@@ -40,7 +40,7 @@ module _ (old mid new ids : List ℕ) (start last n : ℕ) (was : IsChain old st
       let more = stay.size in
       omega (arith, within, more)
 
-  stay_both : StayBut (last ∷ n ∷ []) old new
+  stay_both : SameExceptAt (last ∷ n ∷ []) old new
   stay_both = record {
     size = let more = stay.size in let same = ap length is ∙ length-set mid last n in omega (arith, more, same);
     others = λ m below none.
@@ -57,7 +57,7 @@ module _ (old mid new ids : List ℕ) (start last n : ℕ) (was : IsChain old st
       let found : slice_get new n ≡ Some one.2 = slice_get-get_or new n 0 (omega (arith, within, long, ap length is)) ∙ ap Some (other ∙ get_or_from_slice_get mid n one.2 0 one.3) in
       (refl, last_chain.1, n, slice_get-get_or new last 0 (omega (arith, last_below, long, ap length is)) ∙ ap Some value, (refl, one.1, one.2, found, one.4))
 
-  apart : (k : ℕ) → k < length ids → IsNoneOf (last ∷ n ∷ []) (get_or ids k 0)
+  apart : (k : ℕ) → k < length ids → IsNotIn (last ∷ n ∷ []) (get_or ids k 0)
   apart k below =
       let here : get_or (ids ++ last ∷ []) k 0 ≡ get_or ids k 0 = get_or_append_left ids (last ∷ []) 0 k below in
       none_of_two last n (get_or ids k 0)
@@ -78,7 +78,7 @@ module _ (old mid new ids : List ℕ) (start last n : ℕ) (was : IsChain old st
       (eqb_tells m n))
 
 -- a sector that was taken as a chain of its own
-pub used_begun : (old new : List ℕ) (n : ℕ) → IsFreeIn old n → StayBut (n ∷ []) old new → (m : ℕ) → IsFreeIn new m → IsFreeIn old m
+pub used_begun : (old new : List ℕ) (n : ℕ) → IsFreeIn old n → SameExceptAt (n ∷ []) old new → (m : ℕ) → IsFreeIn new m → IsFreeIn old m
 used_begun old new n loose stay = used_but (n ∷ []) old new stay (λ m free_now.
     ⊎_elim
     (λ same. inr (subst (IsFreeIn old) (sym same.1) loose))
@@ -93,13 +93,13 @@ opened fat ids xs ys start first second some chain =
     (subst (IsChain fat start) (but_last ids (length ids - 1) (omega (arith, some))) chain))
 
 -- a chain that isn't empty begins with its first sector
-pub linked_from : (fat : List ℕ) (start : ℕ) (ids : List ℕ) → 0 < length ids → IsChain fat start ids → IsLinked fat ids
+pub linked_from : (fat : List ℕ) (start : ℕ) (ids : List ℕ) → 0 < length ids → IsChain fat start ids → IsChainInTable fat ids
 linked_from fat start [] some chain = absurd (omega (arith, some))
 linked_from fat start (x ∷ ids) some chain = subst (λ s. IsChain fat s (x ∷ ids)) (sym chain.0) chain
 
-pub longer_from : (old new : List ℕ) (start : ℕ) (ids more all : List ℕ) → 0 < length ids → IsChain old start ids → all ≡ ids ++ more → IsLinked new all → IsChain new start (ids ++ more)
+pub longer_from : (old new : List ℕ) (start : ℕ) (ids more all : List ℕ) → 0 < length ids → IsChain old start ids → all ≡ ids ++ more → IsChainInTable new all → IsChain new start (ids ++ more)
 longer_from old new start [] more all some chain is linked = absurd (omega (arith, some))
-longer_from old new start (x ∷ ids) more all some chain is linked = subst (λ s. IsChain new s (x ∷ ids ++ more)) chain.0 (subst (IsLinked new) is linked)
+longer_from old new start (x ∷ ids) more all some chain is linked = subst (λ s. IsChain new s (x ∷ ids ++ more)) chain.0 (subst (IsChainInTable new) is linked)
 
 -- so many whole sectors are those that their bytes need
 pub whole_sectors : (v : Version) (n : ℕ) → sectors_for v (n * sector_len v) ≡ n

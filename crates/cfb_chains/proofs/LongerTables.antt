@@ -7,7 +7,7 @@ use Rattle.cfb_medium.specs.Versions.{sector_len}
 use Rattle.cfb_medium.specs.declared.version.Version.{Version}
 use Rattle.cfb_sectors.specs.Sectors.{difat_sector, end_of_chain, fat_sector, greatest_regular, sector_start, Chain as IsChain}
 use Rattle.cfb_chains.specs.Behind.{AreWhole, HasMark, IsMarkedBehind}
-use Rattle.cfb_chains.specs.Changes.{AreNoneOf, IsNoneOf, StayBut}
+use Rattle.cfb_chains.specs.Changes.{AreDisjoint, IsNotIn, SameExceptAt}
 use Rattle.cfb_chains.proofs.Beside.{none_first, none_second}
 
 pub never : {A : Type 0} (failed : Bool) → failed ≡ true → failed ≡ false → A
@@ -22,11 +22,11 @@ holds_again xs ys zs first second = ⊎_elim
     (λ held. second (inl (first (inl held))))
     (λ more. ⊎_elim (λ most. second (inr (let most = most.1 in omega (arith, most, more)))) (λ less. second (inl (first (inr less.1)))) (leb_tells (length ys) (length xs)))
 
-still_marked : (sectors later b c : List ℕ) (mark n : ℕ) → (IsNoneOf later n → IsNoneOf sectors n) → get_or c n 0 ≡ get_or b n 0 → HasMark sectors mark b n → HasMark later mark c n
+still_marked : (sectors later b c : List ℕ) (mark n : ℕ) → (IsNotIn later n → IsNotIn sectors n) → get_or c n 0 ≡ get_or b n 0 → HasMark sectors mark b n → HasMark later mark c n
 still_marked sectors later b c mark n still same h = ((λ none. h.0 (still none)), same ∙ h.1)
 
 -- a table was marked behind its end, and then a longer one
-pub marked_then : (taken more entries others ds fs later_ds later_fs a b c : List ℕ) → ((n : ℕ) → (IsNoneOf later_ds n → IsNoneOf ds n) × (IsNoneOf later_fs n → IsNoneOf fs n)) → StayBut others b c
+pub marked_then : (taken more entries others ds fs later_ds later_fs a b c : List ℕ) → ((n : ℕ) → (IsNotIn later_ds n → IsNotIn ds n) × (IsNotIn later_fs n → IsNotIn fs n)) → SameExceptAt others b c
     → IsMarkedBehind ds fs taken entries a b → IsMarkedBehind later_ds later_fs more others b c → IsMarkedBehind later_ds later_fs (taken ++ more) (entries ++ others) a c
 marked_then taken more entries others ds fs later_ds later_fs a b c still stay h k n past below none unset = ⊎_elim
     (λ behind. k n behind.1 below (none_second taken more n none) (none_second entries others n unset))
@@ -50,15 +50,15 @@ mark_ends table sectors others n next rest marked found chain =
     no_chain (x ∷ xs) (same, regular, later, found, more) high other = omega (arith, regular, high)
 
 -- a chain of which nothing was taken or set is one of the old table
-pub old_chain : (ds fs taken entries old new : List ℕ) → StayBut entries old new → IsMarkedBehind ds fs taken entries old new → (start : ℕ) (ids : List ℕ) → AreNoneOf taken ids → AreNoneOf entries ids → IsChain new start ids → IsChain old start ids
+pub old_chain : (ds fs taken entries old new : List ℕ) → SameExceptAt entries old new → IsMarkedBehind ds fs taken entries old new → (start : ℕ) (ids : List ℕ) → AreDisjoint taken ids → AreDisjoint entries ids → IsChain new start ids → IsChain old start ids
 old_chain ds fs taken entries old new stay marked start [] none unset chain = chain
 old_chain ds fs taken entries old new stay marked start (x ∷ ids) none unset (is, regular, next, found, rest) = ⊎_elim
-    (λ past. absurd (mark_ends new ds fs start next ids (marked start past.1 (slice_get_within new start next found) (subst (IsNoneOf taken) is none.0) (subst (IsNoneOf entries) is unset.0)) found rest))
+    (λ past. absurd (mark_ends new ds fs start next ids (marked start past.1 (slice_get_within new start next found) (subst (IsNotIn taken) is none.0) (subst (IsNotIn entries) is unset.0)) found rest))
     (λ front. (
       is,
       regular,
       next,
-      slice_get-get_or old start 0 front.1 ∙ ap Some (sym (stay.others start front.1 (subst (IsNoneOf entries) is unset.0)) ∙ get_or_from_slice_get new start next 0 found),
+      slice_get-get_or old start 0 front.1 ∙ ap Some (sym (stay.others start front.1 (subst (IsNotIn entries) is unset.0)) ∙ get_or_from_slice_get new start next 0 found),
       old_chain ds fs taken entries old new stay marked next ids none.1 unset.1 rest,
     ))
     (leb_tells (length old) start)

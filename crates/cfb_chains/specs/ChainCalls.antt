@@ -1,7 +1,7 @@
 -- What calls that change a chain say of it ([MS-CFB] 2.3).
 use Rattle.std.specs.Prelude.{◌≡◌, ℕ, ◌+◌, ◌-◌, ◌*◌, ◌<◌, ◌⊎◌, ◌↔◌, false, min, true, List, [], ◌∷◌, ◌++◌, drop, length, replicate, slice_index, slice_index_or, take, IfErr, IfOk, IsErrOf, IsTrue, OnErr, OnOk, Result}
 use Rattle.cfb_medium.specs.Bytes.{overwritten}
-use Rattle.cfb_medium.specs.Calls.{IsFaultUnless}
+use Rattle.cfb_medium.specs.Calls.{IsFaultOrInvalidInputIf}
 use Rattle.cfb_medium.specs.Versions.{sector_len}
 use Rattle.cfb_medium.specs.declared.error.Error.{Error}
 use Rattle.cfb_medium.specs.declared.error.Error.TheVariants.{Failed, Full, InvalidData, InvalidInput}
@@ -9,8 +9,8 @@ use Rattle.cfb_sectors.specs.Initial.{initial}
 use Rattle.cfb_sectors.specs.Sectors.{end_of_chain, free, greatest_regular, joined, sector_start, Chain as IsChain}
 use Rattle.cfb_sectors.specs.declared.sector.HasSectors.{Ghosts}
 use Rattle.cfb_chains.specs.ChainViews.{holder_of, init_of, position_of, sectors_of, version_of}
-use Rattle.cfb_chains.specs.Changes.{AreAmong, AreOnce, HaveEntry}
-use Rattle.cfb_chains.specs.Grown.{AreWritable, Ends, IsLinked}
+use Rattle.cfb_chains.specs.Changes.{AreSubsetOf, AreDistinct, HaveEntry}
+use Rattle.cfb_chains.specs.Grown.{AreSectorsWritable, EndsInWriteOrRead, IsChainInTable}
 use Rattle.cfb_chains.specs.Layers.{Changing, Freeing, Growing}
 use Rattle.cfb_chains.specs.Positions.{left_in, place_in, tail_in}
 use Rattle.cfb_chains.specs.declared.chain.Chain.{Chain}
@@ -45,29 +45,29 @@ module _ {H : Type 0} {s : Ghosts H} where
   new_sector it = initial (init_of it) (sector_len (version_of it))
 
   -- nothing but reads happened, and it has the sectors that it had
-  abbrev pub ChainRests : (H → H → Type 0) → Chain H s → Chain H s → Type 0
-  ChainRests rests old new = rests (holder_of old) (holder_of new) × (sectors_of new ≡ sectors_of old)
+  abbrev pub OnlyReadsChain : (H → H → Type 0) → Chain H s → Chain H s → Type 0
+  OnlyReadsChain rests old new = rests (holder_of old) (holder_of new) × (sectors_of new ≡ sectors_of old)
 
   -- Only over a live layer is a call done, and leaves it live; one that had failed answers `Failed`, and rests. After an error
   -- the layer has failed, or nothing but reads happened. The error is a fault or such a refusal, and has its cause.
-  pub record ChainAnswers {T : Type 0} (g : Changing H) (refuses : Error → Type 0) (result : Result T Error) (old new : Chain H s) : Type 0 where
+  pub record ChainErrorContract {T : Type 0} (g : Changing H) (refuses : Error → Type 0) (result : Result T Error) (old new : Chain H s) : Type 0 where
     pub live : OnOk result ((g.failed (holder_of old) ≡ false) × (g.failed (holder_of new) ≡ false))
-    pub failed : g.failed (holder_of old) ≡ true → IsErrOf result Failed × ChainRests g.rests old new
-    pub after : OnErr result ((g.failed (holder_of new) ≡ true) ⊎ ChainRests g.rests old new)
+    pub failed : g.failed (holder_of old) ≡ true → IsErrOf result Failed × OnlyReadsChain g.rests old new
+    pub after : OnErr result ((g.failed (holder_of new) ≡ true) ⊎ OnlyReadsChain g.rests old new)
     pub cause : IfErr result (g.has_cause (holder_of old) (holder_of new))
-    pub fault : IfErr result (λ e. IsFaultUnless ⊥ e ⊎ refuses e)
+    pub fault : IfErr result (λ e. IsFaultOrInvalidInputIf ⊥ e ⊎ refuses e)
 
   -- of these bytes a write takes so many: what the position's sector takes
   abbrev pub taken_count : List ℕ → Chain H s → ℕ
   taken_count bytes it = min (length bytes) (left_in (version_of it) (position_of it))
 
   -- the layer may write them there
-  abbrev pub MayTake : (H → ℕ → ℕ → Type 0) → List ℕ → Chain H s → Type 0
-  MayTake may_write bytes it = may_write (holder_of it) (place_in (version_of it) (sectors_of it) (position_of it)) (taken_count bytes it)
+  abbrev pub CanWriteInChain : (H → ℕ → ℕ → Type 0) → List ℕ → Chain H s → Type 0
+  CanWriteInChain may_write bytes it = may_write (holder_of it) (place_in (version_of it) (sectors_of it) (position_of it)) (taken_count bytes it)
 
   -- the layer's second state comes from its first by a write of them at the position in these sectors
-  abbrev pub Puts : (ℕ → List ℕ → H → H → Type 0) → List ℕ → Chain H s → List ℕ → H → H → Type 0
-  Puts writes bytes it ids = writes (place_in (version_of it) ids (position_of it)) (take (left_in (version_of it) (position_of it)) bytes)
+  abbrev pub WritesAtPosition : (ℕ → List ℕ → H → H → Type 0) → List ℕ → Chain H s → List ℕ → H → H → Type 0
+  WritesAtPosition writes bytes it ids = writes (place_in (version_of it) ids (position_of it)) (take (left_in (version_of it) (position_of it)) bytes)
 
   -- A write tells how many bytes it took, and moves the position behind them; after an error that stays.
   pub record Advances (bytes : List ℕ) (result : Result ℕ Error) (old new : Chain H s) : Type 0 where
@@ -77,17 +77,17 @@ module _ {H : Type 0} {s : Ghosts H} where
 
   -- these bytes lie over the chain's from a place on, where no sector stands twice in it
   abbrev pub ChainOverwrites : Changing H → ℕ → List ℕ → Chain H s → Chain H s → Type 0
-  ChainOverwrites g place bytes old new = IsTrue (g.honest (holder_of old)) → AreOnce (sectors_of old)
+  ChainOverwrites g place bytes old new = IsTrue (g.honest (holder_of old)) → AreDistinct (sectors_of old)
       → joined (version_of old) (g.bytes (holder_of new)) (sectors_of old) ≡ overwritten (chain_bytes g.bytes old) place bytes
 
   -- A write before the chain's end lies over the chain's bytes. It is done where the layer may write there; `InvalidData` tells
   -- of a live layer that may not, and then nothing but reads happened.
   pub record WritesInside (g : Changing H) (bytes : List ℕ) (result : Result ℕ Error) (old new : Chain H s) : Type 0 where
     pub written : IfOk result (λ n. ChainOverwrites g (position_of old) (take n bytes) old new)
-    pub there : OnOk result (MayTake g.may_write bytes old)
-    pub refused : IsErrOf result InvalidData ↔ ((g.failed (holder_of old) ≡ false) × (MayTake g.may_write bytes old → ⊥))
-    pub writes : MayTake g.may_write bytes old → Puts g.writes bytes old (sectors_of old) (holder_of old) (holder_of new)
-    pub rests : (MayTake g.may_write bytes old → ⊥) → g.rests (holder_of old) (holder_of new)
+    pub there : OnOk result (CanWriteInChain g.may_write bytes old)
+    pub refused : IsErrOf result InvalidData ↔ ((g.failed (holder_of old) ≡ false) × (CanWriteInChain g.may_write bytes old → ⊥))
+    pub writes : CanWriteInChain g.may_write bytes old → WritesAtPosition g.writes bytes old (sectors_of old) (holder_of old) (holder_of new)
+    pub rests : (CanWriteInChain g.may_write bytes old → ⊥) → g.rests (holder_of old) (holder_of new)
     pub sectors : sectors_of new ≡ sectors_of old
 
   -- the layer may write what lies behind a length in the sector in which it ends
@@ -99,8 +99,8 @@ module _ {H : Type 0} {s : Ghosts H} where
   Zeroes writes len it = writes (place_in (version_of it) (sectors_of it) len) (replicate (tail_in (version_of it) len) 0)
 
   -- the layer's tables can't be changed, or haven't the chain
-  abbrev pub IsUnlinked : Freeing H → Chain H s → Type 0
-  IsUnlinked g it = IsTrue (g.orderly (holder_of it)) → IsLinked (g.fat (holder_of it)) (sectors_of it) → ⊥
+  abbrev pub LacksUsableChain : Freeing H → Chain H s → Type 0
+  LacksUsableChain g it = IsTrue (g.orderly (holder_of it)) → IsChainInTable (g.fat (holder_of it)) (sectors_of it) → ⊥
 
   -- where it has sectors, the table has a chain from its last one on
   abbrev pub HasEnd : (H → List ℕ) → Chain H s → Type 0
@@ -118,19 +118,19 @@ module _ {H : Type 0} {s : Ghosts H} where
   -- the table changed at entries of the chain's sectors alone, and once done those behind so many are free
   abbrev pub FreesBehind : {T : Type 0} → Freeing H → ℕ → Result T Error → Chain H s → Chain H s → Type 0
   FreesBehind g count result old new = (changed : List ℕ) × g.changes_fat changed (holder_of old) (holder_of new)
-      × OnOk result (IsLinked (g.fat (holder_of old)) (sectors_of old) → AreAmong (sectors_of old) changed × HaveEntry free (g.fat (holder_of new)) (drop count (sectors_of old)))
+      × OnOk result (IsChainInTable (g.fat (holder_of old)) (sectors_of old) → AreSubsetOf (sectors_of old) changed × HaveEntry free (g.fat (holder_of new)) (drop count (sectors_of old)))
 
   -- where the table had the chain it has it now
   abbrev pub StaysLinked : (H → List ℕ) → Chain H s → Chain H s → Type 0
-  StaysLinked fat old new = IsLinked (fat (holder_of old)) (sectors_of old) → IsLinked (fat (holder_of new)) (sectors_of new)
+  StaysLinked fat old new = IsChainInTable (fat (holder_of old)) (sectors_of old) → IsChainInTable (fat (holder_of new)) (sectors_of new)
 
   -- where each of its sectors may be written whole, so it is now
   abbrev pub StaysWritable : (H → ℕ → ℕ → Type 0) → Chain H s → Chain H s → Type 0
-  StaysWritable may_write old new = AreWritable (may_write (holder_of old)) (version_of old) (sectors_of old) → AreWritable (may_write (holder_of new)) (version_of old) (sectors_of new)
+  StaysWritable may_write old new = AreSectorsWritable (may_write (holder_of old)) (version_of old) (sectors_of old) → AreSectorsWritable (may_write (holder_of new)) (version_of old) (sectors_of new)
 
   -- the sectors that a writable chain of an honest layer has now hold what they held
   abbrev pub KeepsBytes : Freeing H → Chain H s → Chain H s → Type 0
-  KeepsBytes g old new = IsTrue (g.honest (holder_of old)) → AreWritable (g.may_write (holder_of old)) (version_of old) (sectors_of old)
+  KeepsBytes g old new = IsTrue (g.honest (holder_of old)) → AreSectorsWritable (g.may_write (holder_of old)) (version_of old) (sectors_of old)
       → joined (version_of old) (g.bytes (holder_of new)) (sectors_of new) ≡ joined (version_of old) (g.bytes (holder_of old)) (sectors_of new)
 
   -- The chain keeps so many sectors at its front, with their bytes, and those behind them are freed.
@@ -143,24 +143,24 @@ module _ {H : Type 0} {s : Ghosts H} where
 
   -- a linked and writable chain of an honest layer, whose sectors are these now, has these bytes
   abbrev pub ChainHolds : Growing H → Chain H s → List ℕ → H → List ℕ → Type 0
-  ChainHolds g old ids now content = IsTrue (g.honest (holder_of old)) → g.version (holder_of old) ≡ version_of old → IsLinked (g.fat (holder_of old)) (sectors_of old)
-      → AreWritable (g.may_write (holder_of old)) (version_of old) (sectors_of old) → joined (version_of old) (g.bytes now) ids ≡ content
+  ChainHolds g old ids now content = IsTrue (g.honest (holder_of old)) → g.version (holder_of old) ≡ version_of old → IsChainInTable (g.fat (holder_of old)) (sectors_of old)
+      → AreSectorsWritable (g.may_write (holder_of old)) (version_of old) (sectors_of old) → joined (version_of old) (g.bytes now) ids ≡ content
 
   -- the chain took in sectors behind its own, which are these now, and the table changed at entries of these alone
-  abbrev pub Lengthens : Growing H → Chain H s → List ℕ → H → Type 0
-  Lengthens g old ids now = (more : List ℕ) × (changed : List ℕ) × (ids ≡ sectors_of old ++ more) × g.grows more changed (holder_of old) now
-      × (IsLinked (g.fat (holder_of old)) (sectors_of old) → AreAmong ids changed)
+  abbrev pub AppendsSectors : Growing H → Chain H s → List ℕ → H → Type 0
+  AppendsSectors g old ids now = (more : List ℕ) × (changed : List ℕ) × (ids ≡ sectors_of old ++ more) × g.grows more changed (holder_of old) now
+      × (IsChainInTable (g.fat (holder_of old)) (sectors_of old) → AreSubsetOf ids changed)
 
   -- so it did, and then the bytes were put at the position, or only reads happened; it may have been made to fail then
   abbrev pub LengthensAndPuts : Growing H → List ℕ → Chain H s → Chain H s → Type 0
   LengthensAndPuts g bytes old new = (more : List ℕ) × (changed : List ℕ) × (mid : H) × (sectors_of new ≡ sectors_of old ++ more) × g.grows more changed (holder_of old) mid
-      × (IsLinked (g.fat (holder_of old)) (sectors_of old) → AreAmong (sectors_of new) changed)
-      × Ends (Puts g.writes bytes old (sectors_of new)) g.rests g.fails mid (holder_of new)
+      × (IsChainInTable (g.fat (holder_of old)) (sectors_of old) → AreSubsetOf (sectors_of new) changed)
+      × EndsInWriteOrRead (WritesAtPosition g.writes bytes old (sectors_of new)) g.rests g.fails mid (holder_of new)
 
   -- where the table had the chain and it was writable, so is that of these sectors
   pub record ChainKeeps (g : Growing H) (old : Chain H s) (ids : List ℕ) (now : H) : Type 0 where
-    pub linked : IsLinked (g.fat (holder_of old)) (sectors_of old) → IsLinked (g.fat now) ids
-    pub writable : g.version (holder_of old) ≡ version_of old → AreWritable (g.may_write (holder_of old)) (version_of old) (sectors_of old) → AreWritable (g.may_write now) (version_of old) ids
+    pub linked : IsChainInTable (g.fat (holder_of old)) (sectors_of old) → IsChainInTable (g.fat now) ids
+    pub writable : g.version (holder_of old) ≡ version_of old → AreSectorsWritable (g.may_write (holder_of old)) (version_of old) (sectors_of old) → AreSectorsWritable (g.may_write now) (version_of old) ids
 
   -- a sector may be written whole, where the layer is of the chain's version
   abbrev pub MayWriteSector : Growing H → Chain H s → ℕ → H → Type 0
@@ -176,7 +176,7 @@ module _ {H : Type 0} {s : Ghosts H} where
 
   -- Why it can't have so many sectors: when it had taken in some, and the live layer's table had changed at these entries, it was
   -- short of them, and none was left, fewer than it wanted, or there are not so many numbers.
-  pub record RunsOut (g : Growing H) (count : ℕ) (old : Chain H s) : Type 0 where
+  pub record LayerRunsOut (g : Growing H) (count : ℕ) (old : Chain H s) : Type 0 where
     pub more : List ℕ
     pub changed : List ℕ
     pub mid : H
@@ -187,7 +187,7 @@ module _ {H : Type 0} {s : Ghosts H} where
 
   -- `Full` of a chain that can't have so many sectors: the table could be changed, and where the layer lives numbers were missing
   -- before the first was taken in
-  pub record IsShort (g : Growing H) (count : ℕ) (old new : Chain H s) : Type 0 where
+  pub record IsShortOfSectors (g : Growing H) (count : ℕ) (old new : Chain H s) : Type 0 where
     pub orderly : IsTrue (g.orderly (holder_of old))
     pub lacks : g.failed (holder_of new) ≡ false → LacksNumber g.lacks count old
-    pub ran_out : RunsOut g count old
+    pub ran_out : LayerRunsOut g count old

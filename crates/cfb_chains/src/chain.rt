@@ -1,5 +1,5 @@
 //! The bytes of a chain of sectors, read from a position on.
-ghost use Rattle.cfb_medium.specs.Calls.{IsFaultUnless};
+ghost use Rattle.cfb_medium.specs.Calls.{IsFaultOrInvalidInputIf};
 ghost use Rattle.cfb_medium.specs.Versions.{sector_len};
 ghost use Rattle.cfb_medium.specs.declared.error.Error.TheVariants.{Failed};
 ghost use Rattle.cfb_chains.specs.Positions.{left_in, place_in};
@@ -120,11 +120,11 @@ impl<'a, H: HasSectors> Chain<'a, H> {
         ensures moved { IfOk result (λ n. position_of self.new ≡ position_of self.old + n) }
         ensures stays { OnErr result (position_of self.new ≡ position_of self.old) }
         ensures same { IsSameChain self.old self.new }
-        ensures live { OnOk result (H.failed (holder_of self.old) ≡ false) }
-        ensures failed { H.failed (holder_of self.old) ≡ true → IsErrOf result Failed }
-        ensures rests { H.rests (holder_of self.old) (holder_of self.new) }
+        ensures not_failed { OnOk result (H.failed (holder_of self.old) ≡ false) }
+        ensures when_failed { H.failed (holder_of self.old) ≡ true → IsErrOf result Failed }
+        ensures only_reads { H.rests (holder_of self.old) (holder_of self.new) }
         ensures cause { IfErr result (H.has_cause (holder_of self.old) (holder_of self.new)) }
-        ensures fault { IfErr result (IsFaultUnless ⊥) }
+        ensures errors { IfErr result (IsFaultOrInvalidInputIf ⊥) }
     {
         if self.holder.is_failed() {
             return Err(Error::Failed);
@@ -144,10 +144,10 @@ impl<'a, H: HasSectors> Chain<'a, H> {
     pub fn seek(&mut self, from: SeekFrom) -> Result<u64, Error>
         ensures ok { IfOk result (λ n. Finds from (len_of self.old) (position_of self.old) n
             × (position_of self.new ≡ n)) }
-        ensures live { OnOk result (H.failed (holder_of self.old) ≡ false) }
-        ensures error { IfErr result (IsNotFound (H.failed (holder_of self.old)) from
+        ensures not_failed { OnOk result (H.failed (holder_of self.old) ≡ false) }
+        ensures errors { IfErr result (IsNotFound (H.failed (holder_of self.old)) from
             (len_of self.old) (position_of self.old)) }
-        ensures failed { H.failed (holder_of self.old) ≡ true → IsErrOf result Failed }
+        ensures when_failed { H.failed (holder_of self.old) ≡ true → IsErrOf result Failed }
         ensures stays { OnErr result (position_of self.new ≡ position_of self.old) }
         ensures same { IsSameChain self.old self.new }
         ensures holder { holder_of self.new ≡ holder_of self.old }

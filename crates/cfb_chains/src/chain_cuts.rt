@@ -1,5 +1,5 @@
 //! Chains that become shorter, and chains of a given length.
-ghost use Rattle.cfb_chains.specs.ChainCalls.{chain_bytes, len_of, new_sector, ChainAnswers, ChainRests, Cuts, FreesBehind, ChainHolds, IsCutTo, IsInvalid, IsInvalidOrFull, IsShort, IsUnlinked, ChainKeeps, KeepsBytes, Lengthens, StaysLinked, StaysWritable};
+ghost use Rattle.cfb_chains.specs.ChainCalls.{chain_bytes, len_of, new_sector, ChainErrorContract, OnlyReadsChain, Cuts, FreesBehind, ChainHolds, IsCutTo, IsInvalid, IsInvalidOrFull, IsShortOfSectors, LacksUsableChain, ChainKeeps, KeepsBytes, AppendsSectors, StaysLinked, StaysWritable};
 ghost use Rattle.cfb_chains.specs.Positions.{sectors_for};
 ghost use Rattle.cfb_medium.specs.declared.error.Error.TheVariants.{Full, InvalidData};
 ghost use Rattle.cfb_medium.specs.Versions.{sector_len};
@@ -27,9 +27,10 @@ impl<'a, H: FreesChains> Chain<'a, H> {
         ensures bytes { OnOk result (KeepsBytes H.FreesChains self.old self.new) }
         ensures same { IsSameBut self.old self.new }
         ensures orderly { OnOk result (IsTrue (H.orderly (holder_of self.old))) }
-        ensures refused { IsErrOf result InvalidData
-            → IsUnlinked H.FreesChains self.old × ChainRests H.rests self.old self.new }
-        ensures answers { ChainAnswers H.ChangesSectors IsInvalid result self.old self.new }
+        ensures refused_only_if { IsErrOf result InvalidData
+            → LacksUsableChain H.FreesChains self.old × OnlyReadsChain H.rests self.old self.new }
+        ensures error_contract { ChainErrorContract H.ChangesSectors IsInvalid result self.old
+            self.new }
     {
         let last = self.links.sector_ids()[count - 1];
         match self.holder.free_chain_after(last) {
@@ -51,9 +52,10 @@ impl<'a, H: FreesChains> Chain<'a, H> {
             × (position_of self.new ≡ position_of self.old)) }
         ensures same { IsSameBut self.old self.new }
         ensures orderly { OnOk result (IsTrue (H.orderly (holder_of self.old))) }
-        ensures refused { IsErrOf result InvalidData
-            → IsUnlinked H.FreesChains self.old × ChainRests H.rests self.old self.new }
-        ensures answers { ChainAnswers H.ChangesSectors IsInvalid result self.old self.new }
+        ensures refused_only_if { IsErrOf result InvalidData
+            → LacksUsableChain H.FreesChains self.old × OnlyReadsChain H.rests self.old self.new }
+        ensures error_contract { ChainErrorContract H.ChangesSectors IsInvalid result self.old
+            self.new }
     {
         if count == 0 {
             return self.free();
@@ -87,9 +89,10 @@ impl<'a, H: GrowsChains> Chain<'a, H> {
         ensures count { OnOk result (length (sectors_of self.new)
             ≡ sectors_for (version_of self.old) len) }
         ensures longer { length (sectors_of self.old) ≤ sectors_for (version_of self.old) len
-            → Lengthens H.GrowsChains self.old (sectors_of self.new) (holder_of self.new) }
+            → AppendsSectors H.GrowsChains self.old (sectors_of self.new) (holder_of self.new) }
         ensures filled { length (sectors_of self.old) ≤ sectors_for (version_of self.old) len
-            → OnOk result (ChainHolds H.GrowsChains self.old (sectors_of self.new) (holder_of self.new)
+            → OnOk result
+            (ChainHolds H.GrowsChains self.old (sectors_of self.new) (holder_of self.new)
             (chain_bytes H.bytes self.old ++ copies (length (sectors_of self.new)
             - length (sectors_of self.old)) (new_sector self.old))) }
         ensures shorter { sectors_for (version_of self.old) len < length (sectors_of self.old)
@@ -100,11 +103,12 @@ impl<'a, H: GrowsChains> Chain<'a, H> {
             ≡ min (position_of self.old) (len_of self.new)) }
         ensures stays { OnErr result (position_of self.new ≡ position_of self.old) }
         ensures same { IsSameBut self.old self.new }
-        ensures refused { IsErrOf result InvalidData
-            → IsUnlinked H.FreesChains self.old × ChainRests H.rests self.old self.new }
-        ensures full { IsErrOf result Full → IsShort H.GrowsChains
+        ensures refused_only_if { IsErrOf result InvalidData
+            → LacksUsableChain H.FreesChains self.old × OnlyReadsChain H.rests self.old self.new }
+        ensures full_only_if { IsErrOf result Full → IsShortOfSectors H.GrowsChains
             (sectors_for (version_of self.old) len) self.old self.new }
-        ensures answers { ChainAnswers H.ChangesSectors IsInvalidOrFull result self.old self.new }
+        ensures error_contract { ChainErrorContract H.ChangesSectors IsInvalidOrFull result self.old
+            self.new }
     {
         let count = needed_sectors(self.links.version(), len) as usize;
         if count < self.num_sectors() {
@@ -121,19 +125,21 @@ impl<'a, H: GrowsChains> Chain<'a, H> {
         requires { length (sectors_of self.old) ≤ sectors_for (version_of self.old) len }
         ensures count { OnOk result (length (sectors_of self.new)
             ≡ sectors_for (version_of self.old) len) }
-        ensures longer { Lengthens H.GrowsChains self.old (sectors_of self.new)
+        ensures longer { AppendsSectors H.GrowsChains self.old (sectors_of self.new)
             (holder_of self.new) }
         ensures filled { OnOk result (ChainHolds H.GrowsChains self.old (sectors_of self.new)
-            (holder_of self.new) (chain_bytes H.bytes self.old ++ padded ((length (sectors_of self.new)
+            (holder_of self.new)
+            (chain_bytes H.bytes self.old ++ padded ((length (sectors_of self.new)
             - length (sectors_of self.old)) * sector_len (version_of self.old)) bytes.now)) }
         ensures keeps { OnOk result (ChainKeeps H.GrowsChains self.old (sectors_of self.new)
             (holder_of self.new)) }
         ensures same { IsSameButSectors self.old self.new }
-        ensures refused { IsErrOf result InvalidData
-            → IsUnlinked H.FreesChains self.old × ChainRests H.rests self.old self.new }
-        ensures full { IsErrOf result Full → IsShort H.GrowsChains
+        ensures refused_only_if { IsErrOf result InvalidData
+            → LacksUsableChain H.FreesChains self.old × OnlyReadsChain H.rests self.old self.new }
+        ensures full_only_if { IsErrOf result Full → IsShortOfSectors H.GrowsChains
             (sectors_for (version_of self.old) len) self.old self.new }
-        ensures answers { ChainAnswers H.ChangesSectors IsInvalidOrFull result self.old self.new }
+        ensures error_contract { ChainErrorContract H.ChangesSectors IsInvalidOrFull result self.old
+            self.new }
     {
         let count = needed_sectors(self.links.version(), len) as usize;
         self.lengthen_to(count, NewSector::Bytes(bytes))

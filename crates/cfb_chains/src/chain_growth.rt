@@ -1,8 +1,8 @@
 //! Chains that become longer.
-ghost use Rattle.cfb_chains.specs.ChainCalls.{chain_bytes, ChainAnswers, ChainRests, HasEnd, HasNoEnd, HasNoNumber, ChainHolds, IsInvalidOrFull, IsUnlinked, ChainKeeps, LacksNumber, Lengthens, MayWriteSector, RunsOut};
-ghost use Rattle.cfb_chains.specs.Changes.{AreAmong};
-ghost use Rattle.cfb_chains.specs.Grown.{IsLinked};
-ghost use Rattle.cfb_medium.specs.Calls.{IsFaultUnless};
+ghost use Rattle.cfb_chains.specs.ChainCalls.{chain_bytes, ChainErrorContract, OnlyReadsChain, HasEnd, HasNoEnd, HasNoNumber, ChainHolds, IsInvalidOrFull, LacksUsableChain, ChainKeeps, LacksNumber, AppendsSectors, MayWriteSector, LayerRunsOut};
+ghost use Rattle.cfb_chains.specs.Changes.{AreSubsetOf};
+ghost use Rattle.cfb_chains.specs.Grown.{IsChainInTable};
+ghost use Rattle.cfb_medium.specs.Calls.{IsFaultOrInvalidInputIf};
 ghost use Rattle.cfb_medium.specs.declared.error.Error.TheVariants.{Failed, Full, InvalidData};
 ghost use Rattle.cfb_medium.specs.Versions.{sector_len};
 ghost use Rattle.cfb_sectors.specs.Initial.{filling, first_bytes};
@@ -20,8 +20,8 @@ impl<'a, H: GrowsChains> Chain<'a, H> {
     fn take_sector(&mut self, init: NewSector<'_>) -> Result<u32, Error>
         ensures grows { IfOk result (λ n. (changed : List ℕ)
             × H.grows (n ∷ []) changed (holder_of self.old) (holder_of self.new)
-            × (IsLinked (H.fat (holder_of self.old)) (sectors_of self.old)
-            → AreAmong (sectors_of self.old ++ n ∷ []) changed)) }
+            × (IsChainInTable (H.fat (holder_of self.old)) (sectors_of self.old)
+            → AreSubsetOf (sectors_of self.old ++ n ∷ []) changed)) }
         ensures none { OnErr result (H.grows [] [] (holder_of self.old) (holder_of self.new)) }
         ensures keeps { IfOk result (λ n. ChainKeeps H.GrowsChains self.old
             (sectors_of self.old ++ n ∷ []) (holder_of self.new)) }
@@ -35,11 +35,12 @@ impl<'a, H: GrowsChains> Chain<'a, H> {
         ensures same { IsSameButSectors self.old self.new }
         ensures links { links_of self.new ≡ links_of self.old }
         ensures orderly { OnOk result (IsTrue (H.orderly (holder_of self.old))) }
-        ensures refused { IsErrOf result InvalidData
-            → HasNoEnd H.FreesChains self.old × ChainRests H.rests self.old self.new }
-        ensures full { IsErrOf result Full → IsTrue (H.orderly (holder_of self.old))
-            × H.is_full (holder_of self.old) × ChainRests H.rests self.old self.new }
-        ensures answers { ChainAnswers H.ChangesSectors IsInvalidOrFull result self.old self.new }
+        ensures refused_only_if { IsErrOf result InvalidData
+            → HasNoEnd H.FreesChains self.old × OnlyReadsChain H.rests self.old self.new }
+        ensures full_only_if { IsErrOf result Full → IsTrue (H.orderly (holder_of self.old))
+            × H.is_full (holder_of self.old) × OnlyReadsChain H.rests self.old self.new }
+        ensures error_contract { ChainErrorContract H.ChangesSectors IsInvalidOrFull result self.old
+            self.new }
     {
         let count = self.links.sector_ids().len();
         if count == 0 {
@@ -58,14 +59,14 @@ impl<'a, H: GrowsChains> Chain<'a, H> {
         requires live { H.failed (holder_of self.old) ≡ false }
         ensures ready { OnOk result (IsTrue (H.orderly (holder_of self.old))) }
         ensures ends { OnOk result (HasEnd H.fat self.old) }
-        ensures rests { H.rests (holder_of self.old) (holder_of self.new) }
+        ensures only_reads { H.rests (holder_of self.old) (holder_of self.new) }
         ensures same { IsSameButSectors self.old self.new }
         ensures links { links_of self.new ≡ links_of self.old }
-        ensures refused { IsErrOf result InvalidData → HasNoEnd H.FreesChains self.old }
-        ensures full { IsErrOf result Full → IsTrue (H.orderly (holder_of self.old))
+        ensures refused_only_if { IsErrOf result InvalidData → HasNoEnd H.FreesChains self.old }
+        ensures full_only_if { IsErrOf result Full → IsTrue (H.orderly (holder_of self.old))
             × H.lacks (holder_of self.old) count }
-        ensures error { IfErr result (λ e. H.has_cause (holder_of self.old) (holder_of self.new) e
-            × (IsFaultUnless ⊥ e ⊎ IsInvalidOrFull e)) }
+        ensures errors { IfErr result (λ e. H.has_cause (holder_of self.old) (holder_of self.new) e
+            × (IsFaultOrInvalidInputIf ⊥ e ⊎ IsInvalidOrFull e)) }
     {
         let last = self.last_sector_id();
         if last == END_OF_CHAIN && self.num_sectors() > 0 {
@@ -80,7 +81,7 @@ impl<'a, H: GrowsChains> Chain<'a, H> {
     // Takes in a sector behind the last one, at the same position, which holds what is said. What is refused leaves the chain as
     // it was.
     pub(crate) fn append_sector(&mut self, init: NewSector<'_>) -> Result<(), Error>
-        ensures grows { Lengthens H.GrowsChains self.old (sectors_of self.new)
+        ensures grows { AppendsSectors H.GrowsChains self.old (sectors_of self.new)
             (holder_of self.new) }
         ensures longer { OnOk result (length (sectors_of self.new)
             ≡ length (sectors_of self.old) + 1) }
@@ -96,11 +97,12 @@ impl<'a, H: GrowsChains> Chain<'a, H> {
             ++ first_bytes init.entry (sector_len (version_of self.old)))) }
         ensures same { IsSameButSectors self.old self.new }
         ensures orderly { OnOk result (IsTrue (H.orderly (holder_of self.old))) }
-        ensures refused { IsErrOf result InvalidData
-            → HasNoEnd H.FreesChains self.old × ChainRests H.rests self.old self.new }
-        ensures full { IsErrOf result Full → IsTrue (H.orderly (holder_of self.old))
-            × HasNoNumber H.is_full self.old × ChainRests H.rests self.old self.new }
-        ensures answers { ChainAnswers H.ChangesSectors IsInvalidOrFull result self.old self.new }
+        ensures refused_only_if { IsErrOf result InvalidData
+            → HasNoEnd H.FreesChains self.old × OnlyReadsChain H.rests self.old self.new }
+        ensures full_only_if { IsErrOf result Full → IsTrue (H.orderly (holder_of self.old))
+            × HasNoNumber H.is_full self.old × OnlyReadsChain H.rests self.old self.new }
+        ensures error_contract { ChainErrorContract H.ChangesSectors IsInvalidOrFull result self.old
+            self.new }
     {
         if self.holder.is_failed() {
             return Err(Error::Failed);
@@ -129,7 +131,7 @@ impl<'a, H: GrowsChains> Chain<'a, H> {
         requires ready { (H.failed (holder_of self.old) ≡ false)
             × IsTrue (H.orderly (holder_of self.old)) × HasEnd H.fat self.old }
         requires more { length (sectors_of self.old) ≤ count }
-        ensures grows { Lengthens H.GrowsChains self.old (sectors_of self.new)
+        ensures grows { AppendsSectors H.GrowsChains self.old (sectors_of self.new)
             (holder_of self.new) }
         ensures count { OnOk result (length (sectors_of self.new) ≡ count) }
         ensures few { OnErr result (length (sectors_of self.new) < count) }
@@ -140,13 +142,13 @@ impl<'a, H: GrowsChains> Chain<'a, H> {
             (chain_bytes H.bytes self.old ++ filling init.entry (length (sectors_of self.new)
             - length (sectors_of self.old)) (sector_len (version_of self.old))) }
         ensures same { IsSameButSectors self.old self.new }
-        ensures live { OnOk result (H.failed (holder_of self.new) ≡ false) }
-        ensures full { IsErrOf result Full → (mid : H)
+        ensures not_failed { OnOk result (H.failed (holder_of self.new) ≡ false) }
+        ensures full_only_if { IsErrOf result Full → (mid : H)
             × (H.is_full mid ⊎ (greatest_regular < length (sectors_of self.new)))
             × H.rests mid (holder_of self.new) }
-        ensures stopped { IsErrOf result Full → RunsOut H.GrowsChains count self.old }
-        ensures error { IfErr result (λ e. H.has_cause (holder_of self.old) (holder_of self.new) e
-            × (IsFaultUnless ⊥ e ⊎ (e ≡ Full))) }
+        ensures stopped { IsErrOf result Full → LayerRunsOut H.GrowsChains count self.old }
+        ensures errors { IfErr result (λ e. H.has_cause (holder_of self.old) (holder_of self.new) e
+            × (IsFaultOrInvalidInputIf ⊥ e ⊎ (e ≡ Full))) }
     {
         let had = self.num_sectors();
         'grow: while self.num_sectors() < count {
@@ -162,7 +164,7 @@ impl<'a, H: GrowsChains> Chain<'a, H> {
     // half way, the layer is made to fail.
     pub(crate) fn lengthen_to(&mut self, count: usize, init: NewSector<'_>) -> Result<(), Error>
         requires more { length (sectors_of self.old) ≤ count }
-        ensures grows { Lengthens H.GrowsChains self.old (sectors_of self.new)
+        ensures grows { AppendsSectors H.GrowsChains self.old (sectors_of self.new)
             (holder_of self.new) }
         ensures count { OnOk result (length (sectors_of self.new) ≡ count) }
         ensures few { length (sectors_of self.new) ≤ count }
@@ -173,12 +175,13 @@ impl<'a, H: GrowsChains> Chain<'a, H> {
             (chain_bytes H.bytes self.old ++ filling init.entry (length (sectors_of self.new)
             - length (sectors_of self.old)) (sector_len (version_of self.old)))) }
         ensures same { IsSameButSectors self.old self.new }
-        ensures refused { IsErrOf result InvalidData
-            → IsUnlinked H.FreesChains self.old × ChainRests H.rests self.old self.new }
-        ensures full { IsErrOf result Full → IsTrue (H.orderly (holder_of self.old))
+        ensures refused_only_if { IsErrOf result InvalidData
+            → LacksUsableChain H.FreesChains self.old × OnlyReadsChain H.rests self.old self.new }
+        ensures full_only_if { IsErrOf result Full → IsTrue (H.orderly (holder_of self.old))
             × (H.failed (holder_of self.new) ≡ false → LacksNumber H.lacks count self.old) }
-        ensures stopped { IsErrOf result Full → RunsOut H.GrowsChains count self.old }
-        ensures answers { ChainAnswers H.ChangesSectors IsInvalidOrFull result self.old self.new }
+        ensures stopped { IsErrOf result Full → LayerRunsOut H.GrowsChains count self.old }
+        ensures error_contract { ChainErrorContract H.ChangesSectors IsInvalidOrFull result self.old
+            self.new }
     {
         if self.holder.is_failed() {
             return Err(Error::Failed);

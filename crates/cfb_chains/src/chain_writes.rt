@@ -1,5 +1,5 @@
 //! The bytes of a chain of sectors, written from a position on.
-ghost use Rattle.cfb_chains.specs.ChainCalls.{chain_bytes, len_of, new_sector, Advances, ChainAnswers, ChainRests, HasNoNumber, ChainHolds, IsInvalid, IsInvalidOrFull, IsInvalidPlace, IsUnlinked, ChainKeeps, LengthensAndPuts, MayTake, MayZero, ChainOverwrites, Puts, WritesInside, Zeroes};
+ghost use Rattle.cfb_chains.specs.ChainCalls.{chain_bytes, len_of, new_sector, Advances, ChainErrorContract, OnlyReadsChain, HasNoNumber, ChainHolds, IsInvalid, IsInvalidOrFull, IsInvalidPlace, LacksUsableChain, ChainKeeps, LengthensAndPuts, CanWriteInChain, MayZero, ChainOverwrites, WritesAtPosition, WritesInside, Zeroes};
 ghost use Rattle.cfb_chains.specs.Positions.{tail_in};
 ghost use Rattle.cfb_medium.specs.Bytes.{overwritten};
 ghost use Rattle.cfb_medium.specs.declared.error.Error.TheVariants.{Failed, Full, InvalidData, InvalidInput};
@@ -23,23 +23,25 @@ impl<'a, H: ChangesSectors> Chain<'a, H> {
         ensures written { IfOk result (λ n. ChainOverwrites H.ChangesSectors (position_of self.old)
             (take n bytes.now)
             self.old self.new) }
-        ensures there { OnOk result (MayTake H.may_write bytes.now self.old) }
-        ensures refused { IsErrOf result InvalidData
+        ensures there { OnOk result (CanWriteInChain H.may_write bytes.now self.old) }
+        ensures refused_only_if { IsErrOf result InvalidData
             ↔ ((H.failed (holder_of self.old) ≡ false)
-            × (MayTake H.may_write bytes.now self.old → ⊥)) }
-        ensures writes { MayTake H.may_write bytes.now self.old
-            → Puts H.writes bytes.now self.old (sectors_of self.old) (holder_of self.old)
+            × (CanWriteInChain H.may_write bytes.now self.old → ⊥)) }
+        ensures writes { CanWriteInChain H.may_write bytes.now self.old
+            → WritesAtPosition H.writes bytes.now self.old (sectors_of self.old)
+            (holder_of self.old)
             (holder_of self.new) }
-        ensures rests { (MayTake H.may_write bytes.now self.old → ⊥)
+        ensures only_reads { (CanWriteInChain H.may_write bytes.now self.old → ⊥)
             → H.rests (holder_of self.old) (holder_of self.new) }
-        ensures either { Puts H.writes bytes.now self.old (sectors_of self.old)
+        ensures either { WritesAtPosition H.writes bytes.now self.old (sectors_of self.old)
             (holder_of self.old) (holder_of self.new)
             ⊎ H.rests (holder_of self.old) (holder_of self.new) }
         ensures still { (at count : ℕ) → H.may_write (holder_of self.old) at count
             → H.may_write (holder_of self.new) at count }
         ensures same { IsSameChain self.old self.new }
-        ensures answers { ChainAnswers H.ChangesSectors IsInvalid result self.old self.new }
-        ensures fault { IfErr result (λ e. (e ≡ InvalidData)
+        ensures error_contract { ChainErrorContract H.ChangesSectors IsInvalid result self.old
+            self.new }
+        ensures errors { IfErr result (λ e. (e ≡ InvalidData)
             ⊎ (H.failed (holder_of self.new) ≡ true)) }
     {
         let (place, left) = self.place(self.position);
@@ -59,8 +61,9 @@ impl<'a, H: ChangesSectors> Chain<'a, H> {
         ensures there { OnOk result (len ≤ len_of self.old) }
         ensures past { IsErrOf result InvalidInput
             ↔ ((H.failed (holder_of self.old) ≡ false) × (len_of self.old < len)) }
-        ensures refused { IsErrOf result InvalidData → MayZero H.may_write len self.old → ⊥ }
-        ensures rests { IfErr result (λ e. IsInvalidPlace e
+        ensures refused_only_if { IsErrOf result InvalidData → MayZero H.may_write len self.old
+            → ⊥ }
+        ensures only_reads { IfErr result (λ e. IsInvalidPlace e
             → H.rests (holder_of self.old) (holder_of self.new)) }
         ensures either { Zeroes H.writes len self.old (holder_of self.old) (holder_of self.new)
             ⊎ H.rests (holder_of self.old) (holder_of self.new) }
@@ -68,8 +71,9 @@ impl<'a, H: ChangesSectors> Chain<'a, H> {
             → H.may_write (holder_of self.new) at count }
         ensures position { position_of self.new ≡ position_of self.old }
         ensures same { IsSameChain self.old self.new }
-        ensures answers { ChainAnswers H.ChangesSectors IsInvalidPlace result self.old self.new }
-        ensures fault { IfErr result (λ e. IsInvalidPlace e
+        ensures error_contract { ChainErrorContract H.ChangesSectors IsInvalidPlace result self.old
+            self.new }
+        ensures errors { IfErr result (λ e. IsInvalidPlace e
             ⊎ (H.failed (holder_of self.new) ≡ true)) }
     {
         if self.holder.is_failed() {
@@ -107,13 +111,14 @@ impl<'a, H: GrowsChains> Chain<'a, H> {
             (holder_of self.new)) }
         ensures same { IsSameBut self.old self.new }
         ensures refused_live { IsErrOf result InvalidData → H.failed (holder_of self.new) ≡ false
-            → IsUnlinked H.FreesChains self.old }
-        ensures refused { IsErrOf result InvalidData
+            → LacksUsableChain H.FreesChains self.old }
+        ensures refused_only_if { IsErrOf result InvalidData
             → H.version (holder_of self.old) ≡ version_of self.old
-            → IsUnlinked H.FreesChains self.old × ChainRests H.rests self.old self.new }
-        ensures full { IsErrOf result Full → IsTrue (H.orderly (holder_of self.old))
-            × HasNoNumber H.is_full self.old × ChainRests H.rests self.old self.new }
-        ensures answers { ChainAnswers H.ChangesSectors IsInvalidOrFull result self.old self.new }
+            → LacksUsableChain H.FreesChains self.old × OnlyReadsChain H.rests self.old self.new }
+        ensures full_only_if { IsErrOf result Full → IsTrue (H.orderly (holder_of self.old))
+            × HasNoNumber H.is_full self.old × OnlyReadsChain H.rests self.old self.new }
+        ensures error_contract { ChainErrorContract H.ChangesSectors IsInvalidOrFull result self.old
+            self.new }
     {
         if let Err(error) = self.append_sector(NewSector::Init(self.init)) {
             return Err(error);
@@ -148,13 +153,15 @@ impl<'a, H: GrowsChains> Chain<'a, H> {
             (holder_of self.new)) }
         ensures same { IsSameBut self.old self.new }
         ensures refused_live { IsErrOf result InvalidData → position_of self.old ≡ len_of self.old
-            → H.failed (holder_of self.new) ≡ false → IsUnlinked H.FreesChains self.old }
-        ensures refused { IsErrOf result InvalidData → position_of self.old ≡ len_of self.old
+            → H.failed (holder_of self.new) ≡ false → LacksUsableChain H.FreesChains self.old }
+        ensures refused_only_if { IsErrOf result InvalidData
+            → position_of self.old ≡ len_of self.old
             → H.version (holder_of self.old) ≡ version_of self.old
-            → IsUnlinked H.FreesChains self.old × ChainRests H.rests self.old self.new }
-        ensures full { IsErrOf result Full → IsTrue (H.orderly (holder_of self.old))
-            × HasNoNumber H.is_full self.old × ChainRests H.rests self.old self.new }
-        ensures answers { ChainAnswers H.ChangesSectors IsInvalidOrFull result self.old self.new }
+            → LacksUsableChain H.FreesChains self.old × OnlyReadsChain H.rests self.old self.new }
+        ensures full_only_if { IsErrOf result Full → IsTrue (H.orderly (holder_of self.old))
+            × HasNoNumber H.is_full self.old × OnlyReadsChain H.rests self.old self.new }
+        ensures error_contract { ChainErrorContract H.ChangesSectors IsInvalidOrFull result self.old
+            self.new }
     {
         if self.position < self.len() {
             return self.write_inside(bytes);

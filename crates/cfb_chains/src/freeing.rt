@@ -1,7 +1,7 @@
 //! Chains that are freed, at whatever height.
-ghost use Rattle.cfb_chains.specs.ChainCalls.{start_of, ChainAnswers, ChainRests, IsInvalid};
-ghost use Rattle.cfb_chains.specs.Changes.{DifferAt, HaveEntry};
-ghost use Rattle.cfb_medium.specs.Calls.{IsFaultUnless};
+ghost use Rattle.cfb_chains.specs.ChainCalls.{start_of, ChainErrorContract, OnlyReadsChain, IsInvalid};
+ghost use Rattle.cfb_chains.specs.Changes.{DifferOnlyAt, HaveEntry};
+ghost use Rattle.cfb_medium.specs.Calls.{IsFaultOrInvalidInputIf};
 ghost use Rattle.cfb_medium.specs.declared.error.Error.TheVariants.{Failed, InvalidData};
 ghost use Rattle.cfb_sectors.specs.Sectors.{end_of_chain, filled_part, free, Chain as IsChain};
 ghost use Rattle.std.specs.Prelude.{false, slice_index, true, Bool, IfErr, IsErrOf, IsTrue, List, OnErr, OnOk, ℕ, [], ◌∷◌, ◌≡◌, ◌⊎◌};
@@ -26,15 +26,15 @@ pub trait FreesChains: ChangesSectors {
     fn free_chain(&mut self, start: u32) -> Result<(), Error>
         ensures frees { (ids : List ℕ) × OnOk result (IsChain (fat self.old) start ids
             × HaveEntry free (fat self.new) ids) × changes_fat ids self.old self.new }
-        ensures live { OnOk result ((Self.failed self.old ≡ false) × IsTrue (orderly self.old)
+        ensures not_failed { OnOk result ((Self.failed self.old ≡ false) × IsTrue (orderly self.old)
             × (Self.failed self.new ≡ false)) }
-        ensures refused { IsErrOf result InvalidData
+        ensures refused_only_if { IsErrOf result InvalidData
             → (IsTrue (orderly self.old) → (ids : List ℕ) → IsChain (fat self.old) start ids → ⊥)
             × Self.rests self.old self.new }
-        ensures failed { Self.failed self.old ≡ true
+        ensures when_failed { Self.failed self.old ≡ true
             → IsErrOf result Failed × Self.rests self.old self.new }
         ensures cause { IfErr result (Self.has_cause self.old self.new) }
-        ensures fault { IfErr result (λ e. (IsFaultUnless ⊥ e
+        ensures errors { IfErr result (λ e. (IsFaultOrInvalidInputIf ⊥ e
             × ((Self.failed self.new ≡ true) ⊎ Self.rests self.old self.new))
             ⊎ (e ≡ InvalidData)) };
 
@@ -46,22 +46,22 @@ pub trait FreesChains: ChangesSectors {
             × (slice_index (fat self.new) sector_id ≡ end_of_chain)
             × HaveEntry free (fat self.new) ids)
             × changes_fat (sector_id ∷ ids) self.old self.new }
-        ensures live { OnOk result ((Self.failed self.old ≡ false) × IsTrue (orderly self.old)
+        ensures not_failed { OnOk result ((Self.failed self.old ≡ false) × IsTrue (orderly self.old)
             × (Self.failed self.new ≡ false)) }
-        ensures refused { IsErrOf result InvalidData
+        ensures refused_only_if { IsErrOf result InvalidData
             → (IsTrue (orderly self.old) → (ids : List ℕ)
             → IsChain (fat self.old) sector_id (sector_id ∷ ids) → ⊥)
             × Self.rests self.old self.new }
-        ensures failed { Self.failed self.old ≡ true
+        ensures when_failed { Self.failed self.old ≡ true
             → IsErrOf result Failed × Self.rests self.old self.new }
         ensures cause { IfErr result (Self.has_cause self.old self.new) }
-        ensures fault { IfErr result (λ e. (IsFaultUnless ⊥ e
+        ensures errors { IfErr result (λ e. (IsFaultOrInvalidInputIf ⊥ e
             × ((Self.failed self.new ≡ true) ⊎ Self.rests self.old self.new))
             ⊎ (e ≡ InvalidData)) };
 
     // other entries stay, and so do the bytes that may be written
     ghost changes_keep: { (entries : List ℕ) (a b : Self) → changes_fat entries a b → (Self.honest b ≡ Self.honest a)
-        × (Self.failed b ≡ false → (Self.failed a ≡ false) × DifferAt entries (fat a) (fat b)
+        × (Self.failed b ≡ false → (Self.failed a ≡ false) × DifferOnlyAt entries (fat a) (fat b)
         × ((place count : ℕ) → Self.may_write a place count → Self.may_write b place count)
         × (IsTrue (Self.honest a) → (place count : ℕ) → Self.may_write a place count → filled_part (Self.bytes b) place count ≡ filled_part (Self.bytes a) place count)) };
 
@@ -85,11 +85,12 @@ impl<'a, H: FreesChains> Chain<'a, H> {
             × (position_of self.new ≡ position_of self.old)) }
         ensures same { IsSameBut self.old self.new }
         ensures orderly { OnOk result (IsTrue (H.orderly (holder_of self.old))) }
-        ensures refused { IsErrOf result InvalidData
+        ensures refused_only_if { IsErrOf result InvalidData
             → (IsTrue (H.orderly (holder_of self.old)) → (ids : List ℕ)
             → IsChain (H.fat (holder_of self.old)) (start_of self.old) ids → ⊥)
-            × ChainRests H.rests self.old self.new }
-        ensures answers { ChainAnswers H.ChangesSectors IsInvalid result self.old self.new }
+            × OnlyReadsChain H.rests self.old self.new }
+        ensures error_contract { ChainErrorContract H.ChangesSectors IsInvalid result self.old
+            self.new }
     {
         let start = self.start_sector_id();
         self.holder.free_chain(start)?;

@@ -1,7 +1,7 @@
 //! Chains that take sectors into use, at whatever height.
 ghost use Rattle.cfb_chains.specs.ChainCalls.{IsInvalidOrFull};
-ghost use Rattle.cfb_chains.specs.Changes.{HasNoneSpare, IsBeside, IsFreeIn, StayBut};
-ghost use Rattle.cfb_medium.specs.Calls.{IsFaultUnless};
+ghost use Rattle.cfb_chains.specs.Changes.{HasNoneSpare, IsBeside, IsFreeIn, SameExceptAt};
+ghost use Rattle.cfb_medium.specs.Calls.{IsFaultOrInvalidInputIf};
 ghost use Rattle.cfb_medium.specs.Versions.{sector_len};
 ghost use Rattle.cfb_medium.specs.declared.error.Error.{Error};
 ghost use Rattle.cfb_medium.specs.declared.error.Error.TheVariants.{Failed, Full, InvalidData};
@@ -47,16 +47,18 @@ pub trait GrowsChains: FreesChains {
             → HasNoneSpare (Self.fat self.old) (tables self.old)) }
         ensures writable { IfOk result (λ n. Self.may_write self.new
             (sector_start (version self.old) n) (sector_len (version self.old))) }
-        ensures live { OnOk result ((Self.failed self.old ≡ false) × IsTrue (Self.orderly self.old)
+        ensures not_failed { OnOk result
+            ((Self.failed self.old ≡ false) × IsTrue (Self.orderly self.old)
             × (Self.failed self.new ≡ false)) }
-        ensures refused { IsErrOf result InvalidData
+        ensures refused_only_if { IsErrOf result InvalidData
             → (IsTrue (Self.orderly self.old) → ⊥) × Self.rests self.old self.new }
-        ensures full { IsErrOf result Full → IsTrue (Self.orderly self.old) × is_full self.old
+        ensures full_only_if { IsErrOf result Full → IsTrue (Self.orderly self.old)
+            × is_full self.old
             × Self.rests self.old self.new }
-        ensures failed { Self.failed self.old ≡ true
+        ensures when_failed { Self.failed self.old ≡ true
             → IsErrOf result Failed × Self.rests self.old self.new }
         ensures cause { IfErr result (Self.has_cause self.old self.new) }
-        ensures fault { IfErr result (λ e. (IsFaultUnless ⊥ e
+        ensures errors { IfErr result (λ e. (IsFaultOrInvalidInputIf ⊥ e
             × ((Self.failed self.new ≡ true) ⊎ Self.rests self.old self.new))
             ⊎ IsInvalidOrFull e) };
 
@@ -76,18 +78,20 @@ pub trait GrowsChains: FreesChains {
             → HasNoneSpare (Self.fat self.old) (tables self.old)) }
         ensures writable { IfOk result (λ n. Self.may_write self.new
             (sector_start (version self.old) n) (sector_len (version self.old))) }
-        ensures live { OnOk result ((Self.failed self.old ≡ false) × IsTrue (Self.orderly self.old)
+        ensures not_failed { OnOk result
+            ((Self.failed self.old ≡ false) × IsTrue (Self.orderly self.old)
             × (Self.failed self.new ≡ false)) }
-        ensures refused { IsErrOf result InvalidData
+        ensures refused_only_if { IsErrOf result InvalidData
             → (IsTrue (Self.orderly self.old) → (ids : List ℕ) (last : ℕ)
             → IsChain (Self.fat self.old) start (ids ++ last ∷ []) → ⊥)
             × Self.rests self.old self.new }
-        ensures full { IsErrOf result Full → IsTrue (Self.orderly self.old) × is_full self.old
+        ensures full_only_if { IsErrOf result Full → IsTrue (Self.orderly self.old)
+            × is_full self.old
             × Self.rests self.old self.new }
-        ensures failed { Self.failed self.old ≡ true
+        ensures when_failed { Self.failed self.old ≡ true
             → IsErrOf result Failed × Self.rests self.old self.new }
         ensures cause { IfErr result (Self.has_cause self.old self.new) }
-        ensures fault { IfErr result (λ e. (IsFaultUnless ⊥ e
+        ensures errors { IfErr result (λ e. (IsFaultOrInvalidInputIf ⊥ e
             × ((Self.failed self.new ≡ true) ⊎ Self.rests self.old self.new))
             ⊎ IsInvalidOrFull e) };
 
@@ -97,17 +101,18 @@ pub trait GrowsChains: FreesChains {
     fn prepare_growth(&mut self, start: u32, count: usize) -> Result<(), Error>
         ensures ready { OnOk result (IsTrue (Self.orderly self.old)) }
         ensures chain { OnOk result ((ids : List ℕ) × IsChain (Self.fat self.old) start ids) }
-        ensures rests { Self.rests self.old self.new }
-        ensures refused { IsErrOf result InvalidData → IsTrue (Self.orderly self.old)
+        ensures only_reads { Self.rests self.old self.new }
+        ensures refused_only_if { IsErrOf result InvalidData → IsTrue (Self.orderly self.old)
             → (ids : List ℕ) → IsChain (Self.fat self.old) start ids → ⊥ }
-        ensures full { IsErrOf result Full → IsTrue (Self.orderly self.old) × lacks self.old count }
-        ensures failed { Self.failed self.old ≡ true → IsErrOf result Failed }
+        ensures full_only_if { IsErrOf result Full → IsTrue (Self.orderly self.old)
+            × lacks self.old count }
+        ensures when_failed { Self.failed self.old ≡ true → IsErrOf result Failed }
         ensures cause { IfErr result (Self.has_cause self.old self.new) }
-        ensures fault { IfErr result (λ e. IsFaultUnless ⊥ e ⊎ IsInvalidOrFull e) };
+        ensures errors { IfErr result (λ e. IsFaultOrInvalidInputIf ⊥ e ⊎ IsInvalidOrFull e) };
 
     // what stands in the FAT and may be written stays
     ghost grows_keep: { (taken entries : List ℕ) (a b : Self) → grows taken entries a b → (Self.honest b ≡ Self.honest a) × (version b ≡ version a)
-        × (Self.failed b ≡ false → (Self.failed a ≡ false) × AllByRecursion (IsFreeIn (Self.fat a)) taken × StayBut entries (Self.fat a) (Self.fat b)
+        × (Self.failed b ≡ false → (Self.failed a ≡ false) × AllByRecursion (IsFreeIn (Self.fat a)) taken × SameExceptAt entries (Self.fat a) (Self.fat b)
         × ((place count : ℕ) → Self.may_write a place count → Self.may_write b place count)
         × (IsTrue (Self.honest a) → (place count : ℕ) → Self.may_write a place count → IsBeside (version a) taken place count → filled_part (Self.bytes b) place count ≡ filled_part (Self.bytes a) place count)
         × (Self.orderly b ≡ Self.orderly a)) };

@@ -62,7 +62,7 @@ impl Links {
         ensures room { OnOk result (HasRoom self.new) }
         ensures same { (ids_of self.new ≡ ids_of self.old)
             × (links_version self.new ≡ links_version self.old) }
-        ensures error { IfErr result (λ e. e ≡ Memory) }
+        ensures errors { IfErr result (λ e. e ≡ Memory) }
     {
         self.sector_ids.reserve(1)?;
         Ok(())
@@ -72,7 +72,7 @@ impl Links {
     pub(crate) fn reserve(&mut self, count: usize) -> Result<(), Error>
         ensures same { (ids_of self.new ≡ ids_of self.old)
             × (links_version self.new ≡ links_version self.old) }
-        ensures error { IfErr result (λ e. (e ≡ Memory)
+        ensures errors { IfErr result (λ e. (e ≡ Memory)
             ⊎ ((e ≡ Full) × (greatest_regular + 1 < length (ids_of self.old) + count))) }
     {
         if count > MAX_REGULAR_SECTOR as usize + 1 - self.sector_ids.len() {
@@ -113,7 +113,7 @@ pub fn chain_in(alloc: Global, table: &[u32], start: u32) -> Result<Vec<u32>, Er
     ensures few { IfOk result (λ sectors. vec_len sectors ≤ greatest_regular + 1) }
     ensures none { IsErrOf result InvalidData → (sectors : List ℕ)
         → IsChain table.now start sectors → ⊥ }
-    ensures error { IfErr result (λ e. (e ≡ InvalidData) ⊎ (e ≡ Memory)) }
+    ensures errors { IfErr result (λ e. (e ≡ InvalidData) ⊎ (e ≡ Memory)) }
 {
     let mut sectors = Vec::new(alloc);
     let mut at = start;

@@ -7,17 +7,17 @@ use Rattle.cfb_medium.specs.Versions.{sector_len}
 use Rattle.cfb_medium.specs.declared.version.Version.{Version}
 use Rattle.cfb_sectors.specs.Sectors.{places, sector_start}
 use Rattle.cfb_chains.specs.Behind.{AreWhole}
-use Rattle.cfb_chains.specs.Owned.{Owned}
+use Rattle.cfb_chains.specs.Owned.{OwnDisjointChains}
 use Rattle.cfb_chains.proofs.ChainWriting.{length-joined}
-use Rattle.cfb_tree.specs.Names.{Letters}
+use Rattle.cfb_tree.specs.Names.{CaseTable}
 use Rattle.cfb_tree.specs.Tree.{Tree}
 use Rattle.cfb_tree.specs.Directory.{kind_stream, Entry}
-use Rattle.cfb_owners.specs.Held.{HasStream, IsStreamAmong, MeansHeld}
-use Rattle.cfb_owners.specs.Kept.{Kept}
-use Rattle.cfb_owners.specs.LiveFile.{LiveFile}
-use Rattle.cfb_owners.specs.Owners.{first_of, mini_stream_owner, stream_owner, Owners}
+use Rattle.cfb_ownership.specs.Held.{OwnerHasStream, IsStreamAmong, OwnersHoldTree}
+use Rattle.cfb_ownership.specs.LiveInvariant.{LiveFileInvariant}
+use Rattle.cfb_ownership.specs.LiveFile.{LiveFile}
+use Rattle.cfb_ownership.specs.Owners.{first_of, mini_stream_owner, stream_owner, Owners}
 use Rattle.cfb_tree.proofs.NamesRead.{all_append}
-use Rattle.cfb_copying.specs.Copied.{color_then, IsCopied, IsLongAmong}
+use Rattle.cfb_copying.specs.Copied.{color_then, IsFileCopied, IsLongAmong}
 use Rattle.cfb_copying.specs.Making.{IsOneOf}
 use Rattle.cfb_copying.proofs.Restarted.{holds_again, siblings_again, some_again}
 use Rattle.cfb_copying.proofs.Tight.{one_is_not_none}
@@ -56,7 +56,7 @@ among_all all (x ∷ rest) within past =
     not_zero : x ≡ 0 → ⊥
     not_zero same = let wrong : nat_eq 0 x ≡ false = past.0 in let right : nat_eq 0 x ≡ true = ap (nat_eq 0) same in cc
 
-module _ (s t : LiveFile) (who : Owners) (own : ℕ → List ℕ) (letters : Letters) (tree : Tree) (h : MeansHeld s who letters tree) (c : IsCopied s who h.ids t own) where
+module _ (s t : LiveFile) (who : Owners) (own : ℕ → List ℕ) (letters : CaseTable) (tree : Tree) (h : OwnersHoldTree s who letters tree) (c : IsFileCopied s who h.ids t own) where
   abbrev pub now : Owners
   now = record { sectors = own; minis = who.minis }
 
@@ -70,7 +70,7 @@ module _ (s t : LiveFile) (who : Owners) (own : ℕ → List ℕ) (letters : Let
   abbrev root : Entry
   root = record h.root { start = first_of (own mini_stream_owner); color = color_then h.root; size = c.root_size }
 
-  kept : Kept t now root
+  kept : LiveFileInvariant t now root
   kept = record {
     header = c.header;
     tables = c.tables;
@@ -82,7 +82,7 @@ module _ (s t : LiveFile) (who : Owners) (own : ℕ → List ℕ) (letters : Let
     root_found = c.repairs.root (record h.root { start = first_of (own mini_stream_owner) }) (c.restarts.root h.root h.kept.root_found);
     root_kind = h.kept.root_kind;
     mini_stream_at = refl;
-    minis_owned = subst (λ table. Owned table [] who.minis) (sym same_mini_fat) h.kept.minis_owned;
+    minis_owned = subst (λ table. OwnDisjointChains table [] who.minis) (sym same_mini_fat) h.kept.minis_owned;
     minis_there = λ k. subst (λ room. AllByRecursion (λ n. 64 * n + 64 ≤ room) (who.minis k)) (sym same_room) (h.kept.minis_there k);
     minis_of_streams = h.kept.minis_of_streams;
   }
@@ -90,7 +90,7 @@ module _ (s t : LiveFile) (who : Owners) (own : ℕ → List ℕ) (letters : Let
   -- a stream has its bytes in sectors of the copy's own
   stream_kept : (id : ℕ) (e : Entry) (start : ℕ) (content : List ℕ) → (id ≡ 0 → ⊥) × IsOneOf h.ids id → slice_get s.entries id ≡ Some e → e.kind ≡ kind_stream
       → slice_get t.entries id ≡ Some (record e { start = start; color = color_then e; size = e.size })
-      → HasStream s who id e content → HasStream t now id (record e { start = start; color = color_then e; size = e.size }) content
+      → OwnerHasStream s who id e content → OwnerHasStream t now id (record e { start = start; color = color_then e; size = e.size }) content
   stream_kept id e start content among found kind found_now has = record {
     short = λ below.
         let was = has.short below in
@@ -127,17 +127,17 @@ module _ (s t : LiveFile) (who : Owners) (own : ℕ → List ℕ) (letters : Let
   -- and its size is the one that it had
   stream_again : (id : ℕ) (e : Entry) (start n : ℕ) (content : List ℕ) → (id ≡ 0 → ⊥) × IsOneOf h.ids id → slice_get s.entries id ≡ Some e → e.kind ≡ kind_stream
       → slice_get t.entries id ≡ Some (record e { start = start; color = color_then e; size = n }) → ((id ≡ 0 → ⊥) → n ≡ e.size)
-      → HasStream s who id e content → HasStream t now id (record e { start = start; color = color_then e; size = n }) content
+      → OwnerHasStream s who id e content → OwnerHasStream t now id (record e { start = start; color = color_then e; size = n }) content
   stream_again id e start n content among found kind found_now same has =
       let is = same among.0 in
-      subst (λ m. HasStream t now id (record e { start = start; color = color_then e; size = m }) content) (sym is)
+      subst (λ m. OwnerHasStream t now id (record e { start = start; color = color_then e; size = m }) content) (sym is)
       (stream_kept id e start content among found kind (subst (λ m. slice_get t.entries id ≡ Some (record e { start = start; color = color_then e; size = m })) is found_now) has)
 
   -- what is no stream of the copy is none of the file
   among_then : (id : ℕ) → IsStreamAmong s.entries h.ids id → IsStreamAmong t.entries h.ids id
   among_then id among = (among.0, some_again s.entries c.between t.entries h.ids own c.root_size c.restarts c.repairs (λ e. e.kind ≡ kind_stream) (λ e. e.kind ≡ kind_stream) (λ e start n kind. kind) id among.1)
 
-  pub copy_held : MeansHeld t now letters tree
+  pub copy_held : OwnersHoldTree t now letters tree
   unfolding IsDistinct
   copy_held = record {
     root = root;
@@ -146,7 +146,7 @@ module _ (s t : LiveFile) (who : Owners) (own : ℕ → List ℕ) (letters : Let
     children = h.children;
     ids = h.ids;
     siblings = siblings_again s.entries c.between t.entries h.ids own c.root_size c.restarts c.repairs h.root.child h.children h.siblings;
-    holds = holds_again s.entries c.between t.entries h.ids own c.root_size c.restarts c.repairs (λ n. (n ≡ 0 → ⊥) × IsOneOf h.ids n) (HasStream s who) (HasStream t now) stream_again tree.content h.children h.ids
+    holds = holds_again s.entries c.between t.entries h.ids own c.root_size c.restarts c.repairs (λ n. (n ≡ 0 → ⊥) × IsOneOf h.ids n) (OwnerHasStream s who) (OwnerHasStream t now) stream_again tree.content h.children h.ids
         (among_all h.ids h.ids (λ n one. one) h.once.0) h.holds;
     once = h.once;
     ordered = h.ordered;

@@ -3,24 +3,24 @@ use Rattle.std.proofs.Common.{◌≡◌, ℕ, ◌*◌, ◌≤◌, List, inr, len
 use Rattle.std.specs.Prelude.{◌⊎◌, codes, slice_get, IfSome, Some}
 use Rattle.std.specs.List.{AllByRecursion}
 use Rattle.cfb_medium.specs.Versions.{sector_len, stream_len_mask}
-use Rattle.cfb_meaning.specs.Means.{IsStrictlyOpenable}
-use Rattle.cfb_owners.specs.Held.{HasStream, MeansHeld}
-use Rattle.cfb_owners.specs.LiveFile.{LiveFile}
-use Rattle.cfb_owners.specs.Owners.{mini_stream_owner, Owners}
-use Rattle.cfb_owners.proofs.HoldsById.{each_part, IsPart}
-use Rattle.cfb_owners.proofs.StrictIs.{strict_is, IsStrictIn}
+use Rattle.cfb_spec.specs.Means.{IsStrictlyOpenable}
+use Rattle.cfb_ownership.specs.Held.{OwnerHasStream, OwnersHoldTree}
+use Rattle.cfb_ownership.specs.LiveFile.{LiveFile}
+use Rattle.cfb_ownership.specs.Owners.{mini_stream_owner, Owners}
+use Rattle.cfb_ownership.proofs.HoldsById.{each_part, IsPart}
+use Rattle.cfb_ownership.proofs.StrictIs.{strict_is, IsStrictIn}
 use Rattle.cfb_siblings.proofs.Lists.{all_map}
 use Rattle.cfb_tree.specs.Directory.{black, kind_unallocated, red, Entry, HasName}
 use Rattle.cfb_tree.specs.Entries.{IsBlackAt, IsColored}
-use Rattle.cfb_tree.specs.Names.{Letters}
+use Rattle.cfb_tree.specs.Names.{CaseTable}
 use Rattle.cfb_tree.specs.Tree.{Tree}
-use Rattle.cfb_copying.specs.Copied.{color_then, CountsTables, HasRootName, IsCopied, IsRepaired}
+use Rattle.cfb_copying.specs.Copied.{color_then, CountsTables, HasRootName, IsFileCopied, IsRepaired}
 use Rattle.cfb_copying.proofs.CopiedMeans.{copy_held, copy_ids, copy_root, now, same_room}
 use Rattle.cfb_copying.proofs.CopiedTight.{copy_tight, tight_layout}
 use Rattle.cfb_copying.proofs.Repaired.{color_used}
 use Rattle.cfb_copying.proofs.Restarted.{repaired, same_name, some_again}
 
-module _ (s t : LiveFile) (who : Owners) (own : ℕ → List ℕ) (letters : Letters) (tree : Tree) (h : MeansHeld s who letters tree) (c : IsCopied s who h.ids t own) where
+module _ (s t : LiveFile) (who : Owners) (own : ℕ → List ℕ) (letters : CaseTable) (tree : Tree) (h : OwnersHoldTree s who letters tree) (c : IsFileCopied s who h.ids t own) where
   -- an entry in use is black
   black_now : (id : ℕ) (e : Entry) → slice_get s.entries id ≡ Some e → (e.kind ≡ kind_unallocated → ⊥) → IsBlackAt t.entries id × IsColored t.entries id
   black_now id e found used =
@@ -36,9 +36,9 @@ module _ (s t : LiveFile) (who : Owners) (own : ℕ → List ℕ) (letters : Let
 
   each_black : AllByRecursion (λ id. IsBlackAt t.entries id × IsColored t.entries id) h.ids
   each_black =
-      all_map (IsPart s.entries (HasStream s who)) (λ id. IsBlackAt t.entries id × IsColored t.entries id) h.ids
+      all_map (IsPart s.entries (OwnerHasStream s who)) (λ id. IsBlackAt t.entries id × IsColored t.entries id) h.ids
       (λ id part. black_now id part.0 part.1 (λ none. ⊎_elim (λ storage. omega (arith, storage, none)) (λ stream. let kind = stream.0 in omega (arith, kind, none)) part.2))
-      (each_part s.entries (HasStream s who) tree.content h.children h.ids h.holds)
+      (each_part s.entries (OwnerHasStream s who) tree.content h.children h.ids h.holds)
 
   -- colours are right, and the root has this size
   pub copy_repaired : (length (who.sectors mini_stream_owner) * sector_len s.version ≤ stream_len_mask s.version → c.root_size ≡ length (who.sectors mini_stream_owner) * sector_len s.version)

@@ -6,16 +6,16 @@ use Rattle.std.proofs.Math.Seq.{get_or-append_right}
 use Rattle.std.proofs.lemmas.List.{get_or_append_left}
 use Rattle.cfb_sectors.specs.Sectors.{sectors_in}
 use Rattle.cfb_tree.specs.Directory.{Entry}
-use Rattle.cfb_tree.specs.Names.{Letters}
+use Rattle.cfb_tree.specs.Names.{CaseTable}
 use Rattle.cfb_tree.specs.Tree.{Tree}
-use Rattle.cfb_meaning.specs.Sound.{in_file, in_mini_stream, Part}
-use Rattle.cfb_owners.specs.Held.{MeansHeld}
-use Rattle.cfb_owners.specs.Kept.{layout_of}
-use Rattle.cfb_owners.specs.LiveFile.{LiveFile}
-use Rattle.cfb_owners.specs.Owners.{Owners}
-use Rattle.cfb_owners.proofs.SoundIs.{sound_is}
-use Rattle.cfb_owners.proofs.UsedParts.{all_keys, key_of, used_by}
-use Rattle.cfb_copying.specs.Copied.{IsCopied, IsLongAmong, IsTight, IsUsed}
+use Rattle.cfb_spec.specs.Sound.{in_file, in_mini_stream, Part}
+use Rattle.cfb_ownership.specs.Held.{OwnersHoldTree}
+use Rattle.cfb_ownership.specs.LiveInvariant.{layout_of}
+use Rattle.cfb_ownership.specs.LiveFile.{LiveFile}
+use Rattle.cfb_ownership.specs.Owners.{Owners}
+use Rattle.cfb_ownership.proofs.SoundIs.{sound_is}
+use Rattle.cfb_ownership.proofs.UsedParts.{all_keys, key_of, used_by}
+use Rattle.cfb_copying.specs.Copied.{IsFileCopied, IsLongAmong, IsTight, IsPartUsed}
 use Rattle.cfb_copying.specs.Making.{IsOneOf}
 use Rattle.cfb_copying.proofs.CopiedMeans.{copy_held, copy_ids, now}
 use Rattle.cfb_copying.proofs.Restarted.{is_long}
@@ -24,23 +24,23 @@ pub one_behind : (xs : List ℕ) (x n : ℕ) → IsOneOf (x ∷ xs) n → (x ≡
 one_behind xs x n (zero, below, is) = inl is
 one_behind xs x n (suc k, below, is) = inr (k, omega (arith, below), is)
 
-used_in_file : (xs : List ℕ) (n : ℕ) → IsOneOf xs n → IsUsed (in_file n) (map in_file xs)
+used_in_file : (xs : List ℕ) (n : ℕ) → IsOneOf xs n → IsPartUsed (in_file n) (map in_file xs)
 used_in_file [] n (k, below, is) = absurd (omega (arith, below))
 used_in_file (x ∷ xs) n one = ⊎_elim (λ same. inl (ap in_file (sym same))) (λ behind. inr (used_in_file xs n behind)) (one_behind xs x n one)
 
-used_front : (part : Part) (xs ys : List Part) → IsUsed part xs → IsUsed part (xs ++ ys)
+used_front : (part : Part) (xs ys : List Part) → IsPartUsed part xs → IsPartUsed part (xs ++ ys)
 used_front part [] ys used = absurd used
 used_front part (x ∷ xs) ys (inl same) = inl same
 used_front part (x ∷ xs) ys (inr behind) = inr (used_front part xs ys behind)
 
-used_behind : (part : Part) (xs ys : List Part) → IsUsed part ys → IsUsed part (xs ++ ys)
+used_behind : (part : Part) (xs ys : List Part) → IsPartUsed part ys → IsPartUsed part (xs ++ ys)
 used_behind part [] ys used = used
 used_behind part (x ∷ xs) ys used = inr (used_behind part xs ys used)
 
-used_of_key : (part : Part) (f : ℕ → List Part) (keys : List ℕ) (k : ℕ) → IsOneOf keys k → IsUsed part (f k) → IsUsed part (flat_map f keys)
+used_of_key : (part : Part) (f : ℕ → List Part) (keys : List ℕ) (k : ℕ) → IsOneOf keys k → IsPartUsed part (f k) → IsPartUsed part (flat_map f keys)
 used_of_key part f [] k (i, below, is) used = absurd (omega (arith, below))
 used_of_key part f (x ∷ keys) k one used = ⊎_elim
-    (λ same. used_front part (f x) (flat_map f keys) (subst (λ n. IsUsed part (f n)) (sym same) used))
+    (λ same. used_front part (f x) (flat_map f keys) (subst (λ n. IsPartUsed part (f n)) (sym same) used))
     (λ behind. used_behind part (f x) (flat_map f keys) (used_of_key part f keys k behind used))
     (one_behind keys x k one)
 
@@ -61,7 +61,7 @@ key_among (x ∷ ids) id one = ⊎_elim
     (λ behind. let rest = key_among ids id behind in (suc rest.0, (let below = rest.1 in omega (arith, below)), rest.2))
     (one_behind ids x id one)
 
-module _ (s t : LiveFile) (who : Owners) (own : ℕ → List ℕ) (letters : Letters) (tree : Tree) (h : MeansHeld s who letters tree) (c : IsCopied s who h.ids t own) where
+module _ (s t : LiveFile) (who : Owners) (own : ℕ → List ℕ) (letters : CaseTable) (tree : Tree) (h : OwnersHoldTree s who letters tree) (c : IsFileCopied s who h.ids t own) where
   abbrev keys : List ℕ
   keys = all_keys h.ids
 
@@ -87,7 +87,7 @@ module _ (s t : LiveFile) (who : Owners) (own : ℕ → List ℕ) (letters : Let
   copy_tight = record {
     layout = layout_of t (now s t who own letters tree h c) (copy_held s t who own letters tree h c).root (copy_held s t who own letters tree h c).ids;
     sound = sound_is t (now s t who own letters tree h c) letters tree (copy_held s t who own letters tree h c);
-    each = λ n below. subst (λ ids. IsUsed (in_file n) (flat_map (used_by t (now s t who own letters tree h c)) (all_keys ids))) (sym (copy_ids s t who own letters tree h c)) (⊎_elim
+    each = λ n below. subst (λ ids. IsPartUsed (in_file n) (flat_map (used_by t (now s t who own letters tree h c)) (all_keys ids))) (sym (copy_ids s t who own letters tree h c)) (⊎_elim
         (λ table. used_of_key (in_file n) (used_by t (now s t who own letters tree h c)) keys 0 (0, omega arith, refl) (tables_used n table))
         (λ owner. used_of_key (in_file n) (used_by t (now s t who own letters tree h c)) keys (suc owner.0) (key_of_owner owner.0 n owner.1) (used_front (in_file n) (map in_file (own owner.0)) (map in_mini_stream (who.minis owner.0)) (used_in_file (own owner.0) n owner.1)))
         (c.tight n (let size : length t.fat ≡ sectors_in t.version (length t.bytes) = c.tables.orderly.covered ∙ c.tables.counted in omega (arith, below, size))));
@@ -99,7 +99,7 @@ module _ (s t : LiveFile) (who : Owners) (own : ℕ → List ℕ) (letters : Let
           (λ second. let size = length-append t.fat_sectors t.difat_sectors in (second.0, (let below = second.1 in omega (arith, below, size)), get_or_append_left t.fat_sectors t.difat_sectors 0 second.0 second.1 ∙ second.2))
           (one_of_two t.difat_sectors t.fat_sectors n one)
 
-      tables_used : (n : ℕ) → IsOneOf (t.difat_sectors ++ t.fat_sectors) n → IsUsed (in_file n) (map in_file (t.fat_sectors ++ t.difat_sectors))
+      tables_used : (n : ℕ) → IsOneOf (t.difat_sectors ++ t.fat_sectors) n → IsPartUsed (in_file n) (map in_file (t.fat_sectors ++ t.difat_sectors))
       tables_used n one = used_in_file (t.fat_sectors ++ t.difat_sectors) n (one_swapped n one)
 
   -- its layout is the copy's

@@ -7,16 +7,16 @@ use Rattle.cfb_medium.specs.declared.medium.ReadMedium.{Ghosts}
 use Rattle.cfb_sectors.specs.Header.{mini_cutoff, IsHeader}
 use Rattle.cfb_directory.specs.Views.{entries_held}
 use Rattle.cfb_fat.specs.Tables.{version_of}
-use Rattle.cfb_live.specs.Live.{live_of, MeansLive}
-use Rattle.cfb_meaning.specs.Means.{IsStrictlyOpenable}
+use Rattle.cfb_tree_edits.specs.Live.{live_of, LiveFileMeansTree}
+use Rattle.cfb_spec.specs.Means.{IsStrictlyOpenable}
 use Rattle.cfb_mini.specs.Views.{allocator_of, directory_of, mini_fat_ids, mini_stream_ids}
 use Rattle.cfb_mini.specs.declared.mini_allocator.MiniAllocator.{MiniAllocator}
-use Rattle.cfb_owners.specs.Held.{HasStream}
-use Rattle.cfb_owners.specs.Owners.{first_of, mini_fat_owner, mini_stream_owner}
-use Rattle.cfb_owners.proofs.HoldsById.{holds_so}
+use Rattle.cfb_ownership.specs.Held.{OwnerHasStream}
+use Rattle.cfb_ownership.specs.Owners.{first_of, mini_fat_owner, mini_stream_owner}
+use Rattle.cfb_ownership.proofs.HoldsById.{holds_so}
 use Rattle.cfb_soundness.specs.Entries.{AreTreeEntries}
 use Rattle.cfb_tree.specs.Directory.{Entry}
-use Rattle.cfb_tree.specs.Names.{Letters}
+use Rattle.cfb_tree.specs.Names.{CaseTable}
 use Rattle.cfb_tree.specs.Tree.{Tree}
 use Rattle.cfb_tree.specs.Entries.{HasSize}
 use Rattle.cfb_copying.specs.Copied.{HasRootName, HoldsCopy}
@@ -24,15 +24,15 @@ use Rattle.cfb_copying.specs.Steps.{HasCopy, IsOriginal}
 use Rattle.cfb_copying.proofs.CopiedStrict.{copy_repaired, copy_strict}
 use Rattle.cfb_copying.proofs.CopiedTight.{copy_tight}
 
-module _ {F : Type 0} {g : Ghosts F} (mini : MiniAllocator F g) (letters : Letters) (tree : Tree) (m : MeansLive letters mini tree) where
-  has_size : (id : ℕ) (e : Entry) (bytes : List ℕ) → HasStream (live_of mini) m.who id e bytes → HasSize e bytes
+module _ {F : Type 0} {g : Ghosts F} (mini : MiniAllocator F g) (letters : CaseTable) (tree : Tree) (m : LiveFileMeansTree letters mini tree) where
+  has_size : (id : ℕ) (e : Entry) (bytes : List ℕ) → OwnerHasStream (live_of mini) m.who id e bytes → HasSize e bytes
   has_size id e bytes has = ⊎_elim (λ long. (has.long long.1).1.whole) (λ short. (has.short short.1).1.whole) (leb_tells mini_cutoff e.size)
 
   -- the entries of the tree are those that were listed
   listed : (ids : List ℕ) → AreTreeEntries (entries_held (directory_of mini)) ids → ids ≡ m.held.ids
   unfolding live_of IsDistinct
   listed ids all =
-      all m.held.root m.held.children m.held.ids tree.content m.held.kept.root_found m.held.siblings (holds_so (live_of mini).entries (HasStream (live_of mini) m.who) HasSize has_size tree.content m.held.children m.held.ids m.held.holds) m.held.once.1
+      all m.held.root m.held.children m.held.ids tree.content m.held.kept.root_found m.held.siblings (holds_so (live_of mini).entries (OwnerHasStream (live_of mini) m.who) HasSize has_size tree.content m.held.children m.held.ids m.held.holds) m.held.once.1
 
   pub original : (ids : List ℕ) → AreTreeEntries (entries_held (directory_of mini)) ids → IsOriginal (allocator_of mini) (live_of mini) m.who ids
   unfolding live_of

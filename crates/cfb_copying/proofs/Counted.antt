@@ -2,7 +2,7 @@
 use Rattle.std.proofs.Common.{◌≡◌, ℕ, ◌+◌, List, [], ◌∷◌, ◌++◌, length, refl, ap, ◌∙◌, arith, length-append}
 use Rattle.std.specs.List.{flat_map}
 use Rattle.std.proofs.lemmas.Grind.{flat_map-append}
-use Rattle.cfb_owners.specs.Owners.{mini_fat_owner, mini_stream_owner, stream_owner, Owners}
+use Rattle.cfb_ownership.specs.Owners.{mini_fat_owner, mini_stream_owner, stream_owner, Owners}
 use Rattle.cfb_copying.specs.Steps.{sectors_among}
 
 -- those of the streams of these entries

@@ -9,7 +9,7 @@ use Rattle.cfb_medium.specs.declared.medium.ReadMedium.{Ghosts}
 use Rattle.cfb_sectors.specs.Sectors.{sector}
 use Rattle.cfb_sectors.specs.declared.initial.SectorInit.{SectorInit}
 use Rattle.cfb_chains.specs.LinkViews.{ids_of}
-use Rattle.cfb_chains.specs.Owned.{Becomes}
+use Rattle.cfb_chains.specs.Owned.{ReplacesChain}
 use Rattle.cfb_chains.specs.declared.links.Links.{Links}
 use Rattle.cfb_directory.specs.Entries.{entries_in}
 use Rattle.cfb_directory.proofs.EntryBytes.{entries_behind}
@@ -17,13 +17,13 @@ use Rattle.cfb_directory.proofs.EntryPlaces.{each, each_copy}
 use Rattle.cfb_fat.specs.Seeing.{seen_of}
 use Rattle.cfb_fat.specs.Tables.{has_failed_here, version_of}
 use Rattle.cfb_fat.specs.declared.allocator.Allocator.{Allocator}
-use Rattle.cfb_owned.specs.Chains.{content_of, GoesOn, Overwrites, Resizes}
-use Rattle.cfb_owners.specs.Owners.{directory_owner, first_of}
+use Rattle.cfb_chain_io.specs.ChainEffects.{content_of, KeepsFileInvariants, Overwrites, Resizes}
+use Rattle.cfb_ownership.specs.Owners.{directory_owner, first_of}
 use Rattle.cfb_tree.specs.Directory.{entries_of, entry_bytes, entry_of, Entry, FitsEntry}
 use Rattle.cfb_tree.specs.EntryViews.{entry_in}
 use Rattle.cfb_tree.specs.declared.entry.DirEntry.{DirEntry}
 use Rattle.cfb_tree.proofs.EntryRead.{entry_again, length-entry_bytes}
-use Rattle.cfb_copying.specs.Making.{with_list, IsMade}
+use Rattle.cfb_copying.specs.Making.{with_list, IsFileInProgress}
 use Rattle.cfb_copying.specs.Steps.{HasEntries}
 use Rattle.cfb_copying.proofs.Made.{at_key, made_over, made_then}
 use Rattle.cfb_copying.proofs.Pieces.{over_whole}
@@ -56,8 +56,8 @@ twice key xs ys lists = λ i k. at k i
 
 module _ {F : Type 0} {g : Ghosts F} where
   -- the directory took in sectors, and then all its bytes were written
-  pub directory_put : (init : SectorInit) (count m : ℕ) (content : List ℕ) (entries : List Entry) (a b c : Allocator F g) (before after : Links) (own bytes : ℕ → List ℕ) → IsMade 1 m a own bytes → own directory_owner ≡ 1 ∷ []
-      → ids_of before ≡ 1 ∷ [] → 0 < count → GoesOn a b → has_failed_here b ≡ false → Resizes init count a b before after → GoesOn b c → has_failed_here c ≡ false → Overwrites 0 content b c after
+  pub directory_put : (init : SectorInit) (count m : ℕ) (content : List ℕ) (entries : List Entry) (a b c : Allocator F g) (before after : Links) (own bytes : ℕ → List ℕ) → IsFileInProgress 1 m a own bytes → own directory_owner ≡ 1 ∷ []
+      → ids_of before ≡ 1 ∷ [] → 0 < count → KeepsFileInvariants a b → has_failed_here b ≡ false → Resizes init count a b before after → KeepsFileInvariants b c → has_failed_here c ≡ false → Overwrites 0 content b c after
       → length content ≡ length (content_of b after) → entries_of (version_of a) content ≡ entries → HasEntries (version_of a) m own bytes entries (ids_of after) c
   directory_put init count m content entries a b c before after own bytes made mine was some goes live grown went lives over size held =
       let v = version_of a in
@@ -65,16 +65,16 @@ module _ {F : Type 0} {g : Ghosts F} where
       let same : own directory_owner ≡ ids_of before = mine ∙ sym was in
       let all : ids ≡ own directory_owner ++ grown.more =
       grown.sectors ∙ ap (λ l. l ++ grown.more) (take_all count (ids_of before) (let one = ap length was in omega (arith, one, some)) ∙ sym same) in
-      let middle : IsMade 1 m b (with_list directory_owner ids own) (with_list directory_owner (content_of b after) bytes) =
+      let middle : IsFileInProgress 1 m b (with_list directory_owner ids own) (with_list directory_owner (content_of b after) bytes) =
       made_then 1 m a b own bytes directory_owner grown.more ids (content_of b after) made goes live grown.chain.has.honest
-      (subst (λ l. Becomes (sector v) [] l grown.more ids (seen_of a) (seen_of b)) (sym same) grown.becomes) all refl grown.whole in
+      (subst (λ l. ReplacesChain (sector v) [] l grown.more ids (seen_of a) (seen_of b)) (sym same) grown.becomes) all refl grown.whole in
       let last = made_over 1 m b c after (with_list directory_owner ids own) (with_list directory_owner (content_of b after) bytes) directory_owner 0 content middle (at_key directory_owner ids own) went lives over in
       record {
         content = content;
-        made = subst (IsMade 1 m c (with_list directory_owner ids own))
+        made = subst (IsFileInProgress 1 m c (with_list directory_owner ids own))
             (ap (λ l. with_list directory_owner l (with_list directory_owner (content_of b after) bytes)) (ap (λ l. overwritten l 0 content) (at_key directory_owner (content_of b after) bytes) ∙ over_whole (content_of b after) content size)
             ∙ twice directory_owner content (content_of b after) bytes)
-            (subst (λ o. IsMade 1 m c o (with_list directory_owner (overwritten (with_list directory_owner (content_of b after) bytes directory_owner) 0 content) (with_list directory_owner (content_of b after) bytes)))
+            (subst (λ o. IsFileInProgress 1 m c o (with_list directory_owner (overwritten (with_list directory_owner (content_of b after) bytes directory_owner) 0 content) (with_list directory_owner (content_of b after) bytes)))
             (twice directory_owner ids ids own) last);
         begins = ap first_of (all ∙ ap (λ l. l ++ grown.more) mine);
         held = held;

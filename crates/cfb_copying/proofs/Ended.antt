@@ -11,14 +11,14 @@ use Rattle.cfb_sectors.specs.Header.{directory_sector_count, mini_fat_sector_cou
 use Rattle.cfb_sectors.specs.Held.{count_of}
 use Rattle.cfb_sectors.specs.Sectors.{fat_in, joined}
 use Rattle.cfb_fat.specs.Seeing.{seen_of}
-use Rattle.cfb_fat.specs.Tables.{bytes_of, difat_sectors_of, fat_of, fat_sectors_of, sectors_of, version_of, HasEnds, IsTold}
+use Rattle.cfb_fat.specs.Tables.{bytes_of, difat_sectors_of, fat_of, fat_sectors_of, sectors_of, version_of, HasEnds, HeaderCountsTables}
 use Rattle.cfb_fat.specs.declared.allocator.Allocator.{Allocator}
-use Rattle.cfb_meaning.specs.Means.{directory_count}
-use Rattle.cfb_owners.specs.LiveFile.{LiveFile}
-use Rattle.cfb_owners.specs.Owners.{directory_owner, first_of, mini_fat_owner, mini_stream_owner, stream_owner, Owners}
+use Rattle.cfb_spec.specs.Means.{directory_count}
+use Rattle.cfb_ownership.specs.LiveFile.{LiveFile}
+use Rattle.cfb_ownership.specs.Owners.{directory_owner, first_of, mini_fat_owner, mini_stream_owner, stream_owner, Owners}
 use Rattle.cfb_tree.specs.Directory.{entries_of, Entry}
 use Rattle.cfb_copying.specs.Copied.{in_black, Repairs, Restarts}
-use Rattle.cfb_copying.specs.Making.{with_list, IsMade}
+use Rattle.cfb_copying.specs.Making.{with_list, IsFileInProgress}
 use Rattle.cfb_copying.specs.Steps.{FillSectors, HasCopied, HasCopy}
 use Rattle.cfb_copying.proofs.Made.{at_key, at_other}
 use Rattle.cfb_copying.proofs.Restarted.{again}
@@ -77,8 +77,8 @@ restarts_under es later ids ours own h = record {
 
 module _ {F : Type 0} {g : Ghosts F} where
   pub copy_ended : (s : LiveFile) (who : Owners) (ids minis dir content : List ℕ) (later repaired : List Entry) (size : ℕ) (a b : Allocator F g) → (h : HasCopied s who ids minis later a) → version_of b ≡ version_of a
-      → IsMade 1 (first_of minis) b (with_list directory_owner dir h.own) (with_list directory_owner content h.bytes) → first_of dir ≡ 1 → entries_of (version_of a) content ≡ repaired → Repairs size later repaired
-      → IsTold b → HasEnds b → directory_sector_count (bytes_of b) ≡ directory_count (version_of b) (length dir) → mini_fat_sector_count (bytes_of b) ≡ length minis → HasCopy s who ids size (bytes_of b)
+      → IsFileInProgress 1 (first_of minis) b (with_list directory_owner dir h.own) (with_list directory_owner content h.bytes) → first_of dir ≡ 1 → entries_of (version_of a) content ≡ repaired → Repairs size later repaired
+      → HeaderCountsTables b → HasEnds b → directory_sector_count (bytes_of b) ≡ directory_count (version_of b) (length dir) → mini_fat_sector_count (bytes_of b) ≡ length minis → HasCopy s who ids size (bytes_of b)
   unfolding seen_of
   copy_ended s who ids minis dir content later repaired size a b h same made begins held repairs told ends directory_told mini_fat_told =
       let own = with_list directory_owner dir h.own in

@@ -10,19 +10,19 @@ use Rattle.cfb_creating.specs.NewFile.{new_directory}
 use Rattle.cfb_directory.specs.Entries.{entries_in}
 use Rattle.cfb_fat.specs.Growing.{IsLean}
 use Rattle.cfb_fat.specs.Keeping.{lean_same}
-use Rattle.cfb_owned.specs.Chains.{RunsOut}
+use Rattle.cfb_chain_io.specs.ChainEffects.{AllocatorRunsOut}
 use Rattle.cfb_fat.specs.Tables.{bytes_of, version_of}
 use Rattle.cfb_fat.specs.declared.allocator.Allocator.{Allocator}
-use Rattle.cfb_owners.specs.LiveFile.{LiveFile}
-use Rattle.cfb_owners.specs.Owners.{directory_owner, first_of, mini_fat_owner, mini_stream_owner, stream_owner, Owners}
+use Rattle.cfb_ownership.specs.LiveFile.{LiveFile}
+use Rattle.cfb_ownership.specs.Owners.{directory_owner, first_of, mini_fat_owner, mini_stream_owner, stream_owner, Owners}
 use Rattle.cfb_siblings.proofs.Colors.{set_other}
 use Rattle.cfb_siblings.proofs.Frames.{set_found}
 use Rattle.cfb_tree.specs.Directory.{Entry}
 use Rattle.cfb_tree.specs.EntryViews.{entry_in}
 use Rattle.cfb_tree.specs.declared.entry.DirEntry.{DirEntry}
 use Rattle.cfb_copying.specs.Copied.{Restarts}
-use Rattle.cfb_copying.specs.Making.{with_list, IsMade, IsOneOf}
-use Rattle.cfb_copying.specs.Steps.{sectors_among, CanPut, HasCopied, IsBegun, IsOriginal}
+use Rattle.cfb_copying.specs.Making.{with_list, IsFileInProgress, IsOneOf}
+use Rattle.cfb_copying.specs.Steps.{sectors_among, CanPut, HasCopied, IsNewFileBegun, IsOriginal}
 use Rattle.cfb_copying.proofs.Counted.{sectors_size}
 use Rattle.cfb_copying.proofs.Numbers.{can_hold, never_out, some_directory}
 use Rattle.cfb_copying.proofs.Made.{at_key, at_other, other_test}
@@ -47,7 +47,7 @@ restarts_root es e own start found is =
       other = λ id past apart. set_other es 0 id new (other_test 0 id (λ same. past (sym same)));
     }
 
-module _ {F : Type 0} {g : Ghosts F} {T : Type 0} {h : Ghosts T} (a : Allocator F g) (b : Allocator T h) (s : LiveFile) (who : Owners) (ids : List ℕ) (es : List DirEntry) (original : IsOriginal a s who ids) (same : s.entries ≡ entries_in es) (begun : IsBegun s.version b) where
+module _ {F : Type 0} {g : Ghosts F} {T : Type 0} {h : Ghosts T} (a : Allocator F g) (b : Allocator T h) (s : LiveFile) (who : Owners) (ids : List ℕ) (es : List DirEntry) (original : IsOriginal a s who ids) (same : s.entries ≡ entries_in es) (begun : IsNewFileBegun s.version b) where
   pub some_entries : 0 < length es
   some_entries = let there = slice_get_within s.entries 0 original.held.root original.held.kept.root_found in let size = ap length same in let many = length-map es entry_in in omega (arith, there, size, many)
 
@@ -56,14 +56,14 @@ module _ {F : Type 0} {g : Ghosts F} {T : Type 0} {h : Ghosts T} (a : Allocator 
       can_put a b s who ids start 1 end_of_chain mini_fat_owner new_own (with_list directory_owner (new_directory s.version) (λ k. [])) original is begun.of_version begun.made (at_other directory_owner (1 ∷ []) (λ k. []) mini_fat_owner (λ e. omega (arith, e)))
 
   -- there are numbers for the mini FAT's sectors
-  pub mini_fat_never : RunsOut 0 (length (who.sectors mini_fat_owner)) b → ⊥
+  pub mini_fat_never : AllocatorRunsOut 0 (length (who.sectors mini_fat_owner)) b → ⊥
   mini_fat_never =
       let some = some_directory a s who ids original in
       let size = sectors_size who ids in
       never_out b s.version 0 (length (who.sectors mini_fat_owner)) 1 (length (who.sectors directory_owner) + length (sectors_among who ids)) begun.of_version (can_hold a s who ids original) begun.lean (omega (arith, some, size))
 
   -- and behind these for the mini stream's
-  pub mini_stream_never : (y : Allocator T h) → version_of y ≡ version_of b → IsLean y (1 + length (who.sectors mini_fat_owner)) → RunsOut 0 (length (who.sectors mini_stream_owner)) y → ⊥
+  pub mini_stream_never : (y : Allocator T h) → version_of y ≡ version_of b → IsLean y (1 + length (who.sectors mini_fat_owner)) → AllocatorRunsOut 0 (length (who.sectors mini_stream_owner)) y → ⊥
   mini_stream_never y version lean =
       let some = some_directory a s who ids original in
       let size = sectors_size who ids in
@@ -71,7 +71,7 @@ module _ {F : Type 0} {g : Ghosts F} {T : Type 0} {h : Ghosts T} (a : Allocator 
       (lean_same (version_of y) (version_of y) _ _ _ (1 + length (who.sectors mini_fat_owner)) _ _ _ _ refl refl refl refl (omega arith) lean) (omega (arith, some, size))
 
   module _ (x : Allocator F g) (y : Allocator T h) (minis : List ℕ) (read : IsOriginal x s who ids) (version : version_of y ≡ version_of b) (e : DirEntry) (found : slice_get (entries_in es) 0 ≡ Some (entry_in e))
-      (made : IsMade 1 end_of_chain y (with_list mini_fat_owner minis new_own) (with_list mini_fat_owner (joined (version_of a) (bytes_of a) (who.sectors mini_fat_owner)) (with_list directory_owner (new_directory s.version) (λ k. [])))) where
+      (made : IsFileInProgress 1 end_of_chain y (with_list mini_fat_owner minis new_own) (with_list mini_fat_owner (joined (version_of a) (bytes_of a) (who.sectors mini_fat_owner)) (with_list directory_owner (new_directory s.version) (λ k. [])))) where
     abbrev pub own_then : ℕ → List ℕ
     own_then = with_list mini_fat_owner minis new_own
 
@@ -90,7 +90,7 @@ module _ {F : Type 0} {g : Ghosts F} {T : Type 0} {h : Ghosts T} (a : Allocator 
         (at_other mini_fat_owner minis new_own mini_stream_owner (λ is. omega (arith, is)) ∙ at_other directory_owner (1 ∷ []) (λ k. []) mini_stream_owner (λ is. omega (arith, is)))
 
     pub minis_copied : (c : Allocator T h) (stream : List ℕ) (start : ℕ) → start ≡ first_of stream → version_of c ≡ version_of y
-        → IsMade 1 end_of_chain c (with_list mini_stream_owner stream own_then) (with_list mini_stream_owner (joined (version_of x) (bytes_of x) (who.sectors mini_stream_owner)) bytes_then)
+        → IsFileInProgress 1 end_of_chain c (with_list mini_stream_owner stream own_then) (with_list mini_stream_owner (joined (version_of x) (bytes_of x) (who.sectors mini_stream_owner)) bytes_then)
         → IsLean c (1 + length (who.sectors mini_fat_owner) + length (who.sectors mini_stream_owner))
         → HasCopied s who [] minis (entries_in (slice_set es 0 (record e { start_sector = start }))) c
     minis_copied c stream start is later done lean =

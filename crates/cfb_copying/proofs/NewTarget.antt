@@ -4,7 +4,7 @@ use Rattle.std.specs.Prelude.{slice_get, Bool, Some, ◌||◌}
 use Rattle.std.proofs.lemmas.Bool.Decides.{eqb_tells}
 use Rattle.std.proofs.lemmas.Grind.{merely}
 use Rattle.std.specs.List.{AllByRecursion}
-use Rattle.cfb_medium.specs.Calls.{IsFaultUnless}
+use Rattle.cfb_medium.specs.Calls.{IsFaultOrInvalidInputIf}
 use Rattle.cfb_medium.specs.Numbers.{numbers}
 use Rattle.cfb_medium.specs.declared.error.Error.{Error}
 use Rattle.cfb_medium.specs.declared.error.Error.TheVariants.{AlreadyExists, Device, Failed, Full, InvalidData, InvalidInput, Memory, NotFound, UnexpectedEof}
@@ -16,20 +16,20 @@ use Rattle.cfb_sectors.specs.Held.{count_of}
 use Rattle.cfb_sectors.specs.Sectors.{end_of_chain, fat_in, fat_sector, free, joined, sector_start, sectors_in}
 use Rattle.cfb_sectors.specs.Header.{difat_sector_count, fat_sector_count, first_difat_sector, first_directory_sector, first_mini_fat_sector, IsHeader}
 use Rattle.cfb_chains.specs.Behind.{AreWhole}
-use Rattle.cfb_chains.specs.Changes.{AreNoneOf, AreOnce, IsNoneOf}
-use Rattle.cfb_chains.specs.Grown.{IsLinked}
-use Rattle.cfb_chains.specs.Owned.{Owned}
+use Rattle.cfb_chains.specs.Changes.{AreDisjoint, AreDistinct, IsNotIn}
+use Rattle.cfb_chains.specs.Grown.{IsChainInTable}
+use Rattle.cfb_chains.specs.Owned.{OwnDisjointChains}
 use Rattle.cfb_creating.specs.NewFile.{new_directory, new_fat, new_file, new_header}
 use Rattle.cfb_creating.proofs.NewBytes.{directory_joined, fields, length-new_file, numbers_read, table_joined, three_whole}
 use Rattle.cfb_fat.specs.Listed.{stop_behind, Lists}
 use Rattle.cfb_fat.specs.Keeping.{lean_same}
-use Rattle.cfb_fat.specs.Orderly.{AreLean, IsOrderly}
+use Rattle.cfb_fat.specs.Orderly.{AreLean, AreTablesConsistent}
 use Rattle.cfb_fat.specs.Seeing.{seen_of}
 use Rattle.cfb_fat.specs.Tables.{bytes_of, difat_sectors_of, fat_of, fat_sectors_of, has_failed_here, is_honest, sectors_of, tables_of, version_of}
 use Rattle.cfb_fat.specs.declared.allocator.Allocator.{Allocator}
-use Rattle.cfb_owners.specs.Owners.{directory_owner}
+use Rattle.cfb_ownership.specs.Owners.{directory_owner}
 use Rattle.cfb_copying.specs.Making.{with_list, IsOneOf}
-use Rattle.cfb_copying.specs.Steps.{IsBegun}
+use Rattle.cfb_copying.specs.Steps.{IsNewFileBegun}
 use Rattle.cfb_copying.proofs.Made.{at_key, at_other}
 
 two_sectors : (v : Version) → sectors_in v (3 * sector_len v) ≡ 2
@@ -57,7 +57,7 @@ each_owner P one nothing k = ⊎_elim (λ is. subst P (sym (ap own is.1 ∙ mine
 abbrev table : List ℕ
 table = fat_sector ∷ end_of_chain ∷ []
 
-own_once : AreOnce (0 ∷ [])
+own_once : AreDistinct (0 ∷ [])
 own_once k l first second same = omega (arith, first, second)
 
 some_same : (a b : ℕ) → Some a ≡ Some b → a ≡ b
@@ -66,22 +66,22 @@ some_same a b same = cc
 not_free : Some fat_sector ≡ Some free → ⊥
 not_free same = let both : fat_sector ≡ free = some_same fat_sector free same in omega (arith, both)
 
-new_owned : Owned table (0 ∷ []) own
+new_owned : OwnDisjointChains table (0 ∷ []) own
 new_owned = record {
-  linked = each_owner (IsLinked table) (refl, omega arith, end_of_chain, refl, refl) refl;
+  linked = each_owner (IsChainInTable table) (refl, omega arith, end_of_chain, refl, refl) refl;
   apart = λ k l other. ⊎_elim
-      (λ is. subst (AreNoneOf (own k)) (sym (none l (λ zero_is. other (is.1 ∙ sym zero_is)))) tt)
-      (λ past. subst (λ xs. AreNoneOf xs (own l)) (sym (none k past.1)) (each_owner (AreNoneOf []) ((λ j below same. omega (arith, below)), tt) tt l))
+      (λ is. subst (AreDisjoint (own k)) (sym (none l (λ zero_is. other (is.1 ∙ sym zero_is)))) tt)
+      (λ past. subst (λ xs. AreDisjoint xs (own l)) (sym (none k past.1)) (each_owner (AreDisjoint []) ((λ j below same. omega (arith, below)), tt) tt l))
       (eqb_tells k 0);
-  beside = each_owner (AreNoneOf (0 ∷ [])) (beside_one, tt) tt;
+  beside = each_owner (AreDisjoint (0 ∷ [])) (beside_one, tt) tt;
   marked = marks;
 }
   where
-    beside_one : IsNoneOf (0 ∷ []) 1
+    beside_one : IsNotIn (0 ∷ []) 1
     beside_one zero below same = omega (arith, same)
     beside_one (suc k) below same = omega (arith, below)
 
-    marks : (n : ℕ) → slice_get table n ≡ Some free → IsNoneOf (0 ∷ []) n
+    marks : (n : ℕ) → slice_get table n ≡ Some free → IsNotIn (0 ∷ []) n
     marks zero found zero below same = absurd (let wrong : Some fat_sector ≡ Some free = found in not_free wrong)
     marks zero found (suc k) below same = omega (arith, below)
     marks (suc n) found zero below same = omega (arith, same)
@@ -109,10 +109,10 @@ first_counted v bytes ids len count is size many are =
     subst (AllByRecursion (λ n. n < count)) (sym are) (omega (arith, two), tt)
 
 -- an error that no device and no fault before gives is want of memory
-pub only_memory : (e : Error) → IsFaultUnless ⊥ e ⊎ (e ≡ InvalidData) → (e ≡ InvalidData → ⊥) → (e ≡ Device → ⊥) → (e ≡ Failed → ⊥) → e ≡ Memory
+pub only_memory : (e : Error) → IsFaultOrInvalidInputIf ⊥ e ⊎ (e ≡ InvalidData) → (e ≡ InvalidData → ⊥) → (e ≡ Device → ⊥) → (e ≡ Failed → ⊥) → e ≡ Memory
 only_memory e fault there device failed = ⊎_elim (λ is. by_kind e is device failed) (λ invalid. absurd (there invalid)) fault
   where
-    by_kind : (e : Error) → IsFaultUnless ⊥ e → (e ≡ Device → ⊥) → (e ≡ Failed → ⊥) → e ≡ Memory
+    by_kind : (e : Error) → IsFaultOrInvalidInputIf ⊥ e → (e ≡ Device → ⊥) → (e ≡ Failed → ⊥) → e ≡ Memory
     by_kind Memory is device failed = refl
     by_kind Device is device failed = absurd (device refl)
     by_kind Failed is device failed = absurd (failed refl)
@@ -133,7 +133,7 @@ new_lean v = record {
 
 module _ {F : Type 0} {g : Ghosts F} where
   pub new_begun : (v : Version) (it : Allocator F g) → has_failed_here it ≡ false → IsTrue (is_honest it) → version_of it ≡ v → bytes_of it ≡ new_file v → difat_sectors_of it ≡ [] → fat_sectors_of it ≡ 0 ∷ []
-      → fat_of it ≡ take (count_of (sectors_of it)) (fat_in v (new_file v) (0 ∷ [])) → IsBegun v it
+      → fat_of it ≡ take (count_of (sectors_of it)) (fat_in v (new_file v) (0 ∷ [])) → IsNewFileBegun v it
   unfolding seen_of new_header
   new_begun v it live honest of_version are difat fats fat =
       let read = fields v [] in
@@ -143,13 +143,13 @@ module _ {F : Type 0} {g : Ghosts F} where
       let fat_is : fat_of it ≡ table =
       fat ∙ ap (λ n. take n (fat_in v (new_file v) (0 ∷ []))) count ∙ ap (λ bs. take 2 (fat_in v bs (0 ∷ []))) (sym (append-nil (new_file v))) ∙ ap (λ l. take 2 (numbers l)) (table_joined v []) ∙ ap (take 2) (numbers_read v) ∙ front v in
       let tables : tables_of it ≡ 0 ∷ [] = ap (λ l. l ++ fat_sectors_of it) difat ∙ fats in
-      let orderly : IsOrderly v 2 table (0 ∷ []) [] = record { once = own_once; covered = refl; some = omega arith; there = λ k below. absurd (omega (arith, below)); named = omega arith } in
+      let orderly : AreTablesConsistent v 2 table (0 ∷ []) [] = record { once = own_once; covered = refl; some = omega arith; there = λ k below. absurd (omega (arith, below)); named = omega arith } in
       let lists : Lists v (new_file v ++ []) [] (0 ∷ []) = record { stop = end_of_chain; stops = inl refl; chain = read.difat_start; unused = 108; entries = append-nil _ ∙ read.difat } in
-      let orderly_here : IsOrderly (version_of it) (count_of (sectors_of it)) (fat_of it) (fat_sectors_of it) (difat_sectors_of it) =
-      subst (λ u. IsOrderly u (count_of (sectors_of it)) (fat_of it) (fat_sectors_of it) (difat_sectors_of it)) (sym of_version)
-      (subst (λ n. IsOrderly v n (fat_of it) (fat_sectors_of it) (difat_sectors_of it)) (sym count)
-      (subst (λ l. IsOrderly v 2 l (fat_sectors_of it) (difat_sectors_of it)) (sym fat_is)
-      (subst (λ l. IsOrderly v 2 table l (difat_sectors_of it)) (sym fats) (subst (IsOrderly v 2 table (0 ∷ [])) (sym difat) orderly)))) in
+      let orderly_here : AreTablesConsistent (version_of it) (count_of (sectors_of it)) (fat_of it) (fat_sectors_of it) (difat_sectors_of it) =
+      subst (λ u. AreTablesConsistent u (count_of (sectors_of it)) (fat_of it) (fat_sectors_of it) (difat_sectors_of it)) (sym of_version)
+      (subst (λ n. AreTablesConsistent v n (fat_of it) (fat_sectors_of it) (difat_sectors_of it)) (sym count)
+      (subst (λ l. AreTablesConsistent v 2 l (fat_sectors_of it) (difat_sectors_of it)) (sym fat_is)
+      (subst (λ l. AreTablesConsistent v 2 table l (difat_sectors_of it)) (sym fats) (subst (AreTablesConsistent v 2 table (0 ∷ [])) (sym difat) orderly)))) in
       let lists_here : Lists (version_of it) (bytes_of it) (difat_sectors_of it) (fat_sectors_of it) =
       subst (λ u. Lists u (bytes_of it) (difat_sectors_of it) (fat_sectors_of it)) (sym of_version)
       (subst (λ bs. Lists v bs (difat_sectors_of it) (fat_sectors_of it)) whole
@@ -162,7 +162,7 @@ module _ {F : Type 0} {g : Ghosts F} where
           header = subst (λ u. IsHeader u (bytes_of it)) (sym of_version) (subst (IsHeader v) whole read.header);
           directory_at = ap first_directory_sector (sym whole) ∙ read.directory;
           mini_fat_at = ap first_mini_fat_sector (sym whole) ∙ read.mini_fat;
-          owned = subst (λ l. Owned l (tables_of it) own) (sym fat_is) (subst (λ l. Owned table l own) (sym tables) new_owned);
+          owned = subst (λ l. OwnDisjointChains l (tables_of it) own) (sym fat_is) (subst (λ l. OwnDisjointChains table l own) (sym tables) new_owned);
           holds = λ k. ⊎_elim
               (λ is. ap (λ n. joined (version_of it) (bytes_of it) (own n)) is.1 ∙ ap (joined (version_of it) (bytes_of it)) mine ∙ ap (λ u. joined u (bytes_of it) (1 ∷ [])) of_version ∙ ap (λ bs. joined v bs (1 ∷ [])) (sym whole) ∙ directory_joined v []
               ∙ sym (ap (with_list directory_owner (new_directory v) (λ j. [])) is.1 ∙ at_key directory_owner (new_directory v) (λ j. [])))

@@ -9,15 +9,15 @@ use Rattle.cfb_sectors.specs.Sectors.{end_of_chain, joined}
 use Rattle.cfb_directory.specs.Entries.{entries_in}
 use Rattle.cfb_fat.specs.Growing.{IsLean}
 use Rattle.cfb_fat.specs.Keeping.{lean_same}
-use Rattle.cfb_owned.specs.Chains.{RunsOut}
+use Rattle.cfb_chain_io.specs.ChainEffects.{AllocatorRunsOut}
 use Rattle.cfb_fat.specs.Tables.{bytes_of, version_of}
 use Rattle.cfb_fat.specs.declared.allocator.Allocator.{Allocator}
-use Rattle.cfb_owners.specs.LiveFile.{LiveFile}
-use Rattle.cfb_owners.specs.Owners.{directory_owner, first_of, stream_owner, Owners}
+use Rattle.cfb_ownership.specs.LiveFile.{LiveFile}
+use Rattle.cfb_ownership.specs.Owners.{directory_owner, first_of, stream_owner, Owners}
 use Rattle.cfb_tree.specs.Directory.{kind_stream, Entry}
 use Rattle.cfb_tree.specs.EntryViews.{entry_in}
 use Rattle.cfb_tree.specs.declared.entry.DirEntry.{DirEntry}
-use Rattle.cfb_copying.specs.Making.{with_list, IsMade}
+use Rattle.cfb_copying.specs.Making.{with_list, IsFileInProgress}
 use Rattle.cfb_copying.specs.Steps.{sectors_among, CanPut, HasCopied, IsNext, IsOriginal}
 use Rattle.cfb_copying.proofs.Counted.{sectors_split}
 use Rattle.cfb_copying.proofs.Numbers.{can_hold, never_out, some_directory}
@@ -35,7 +35,7 @@ module _ {F : Type 0} {g : Ghosts F} {T : Type 0} {h : Ghosts T} (a : Allocator 
   next_there = let there = entry_there a s who ids original id next.among in let size = has.restarts.size in let many = length-map es entry_in in omega (arith, there, size, many)
 
   -- there are numbers for its sectors
-  pub next_never : RunsOut 0 (length (who.sectors (stream_owner id))) b → ⊥
+  pub next_never : AllocatorRunsOut 0 (length (who.sectors (stream_owner id))) b → ⊥
   next_never =
       let split = ap (λ l. length (sectors_among who l)) next.splits ∙ sectors_split who done id next.rest in
       let some = some_directory a s who ids original in
@@ -59,7 +59,7 @@ module _ {F : Type 0} {g : Ghosts F} {T : Type 0} {h : Ghosts T} (a : Allocator 
           has.version has.made (has.none id (λ it. one_is_not_none done id it.among next.fresh))
 
       pub next_long : (c : Allocator T h) (sectors : List ℕ) (start : ℕ) → start ≡ first_of sectors → version_of c ≡ version_of b
-          → IsMade 1 end_of_chain c (with_list (stream_owner id) sectors has.own) (with_list (stream_owner id) (joined (version_of a) (bytes_of a) (who.sectors (stream_owner id))) has.bytes)
+          → IsFileInProgress 1 end_of_chain c (with_list (stream_owner id) sectors has.own) (with_list (stream_owner id) (joined (version_of a) (bytes_of a) (who.sectors (stream_owner id))) has.bytes)
           → IsLean c (length (sectors_among who done) + 1 + length (who.sectors (stream_owner id)))
           → HasCopied s who (done ++ id ∷ []) minis (entries_in (slice_set es id (record e { start_sector = start }))) c
       next_long c sectors start is same made lean =
@@ -70,4 +70,4 @@ module _ {F : Type 0} {g : Ghosts F} {T : Type 0} {h : Ghosts T} (a : Allocator 
           ap {A = ℕ} (λ n. slice_set (entries_in es) id (record (entry_in e) { start = n })) (sym is) ∙ sym (map-set entry_in es id (record e { start_sector = start })) in
           subst (λ l. HasCopied s who (done ++ id ∷ []) minis l c) entries
           (long_then s who done minis (entries_in es) id (entry_in e) (was_found (entry_in e) now) b c sectors has kind long next.fresh past same
-          (subst (λ l. IsMade 1 end_of_chain c (with_list key sectors has.own) (with_list key l has.bytes)) content made) lean)
+          (subst (λ l. IsFileInProgress 1 end_of_chain c (with_list key sectors has.own) (with_list key l has.bytes)) content made) lean)

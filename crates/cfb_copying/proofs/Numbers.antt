@@ -11,17 +11,17 @@ use Rattle.cfb_medium.specs.declared.version.Version.{Version}
 use Rattle.cfb_medium.specs.declared.medium.ReadMedium.{Ghosts}
 use Rattle.cfb_sectors.specs.Sectors.{fat_in, greatest_regular, Chain}
 use Rattle.cfb_chains.proofs.ChainGrowing.{chain_once}
-use Rattle.cfb_chains.specs.Changes.{AreNoneOf, AreOnce, IsNoneOf}
+use Rattle.cfb_chains.specs.Changes.{AreDisjoint, AreDistinct, IsNotIn}
 use Rattle.cfb_fat.proofs.FatEntries.{length-fat_in}
 use Rattle.cfb_fat.specs.Growing.{IsLean}
 use Rattle.cfb_fat.specs.Orderly.{AreBelow, AreLean}
 use Rattle.cfb_fat.specs.Tables.{difat_sectors_of, fat_of, fat_sectors_of, version_of}
 use Rattle.cfb_fat.specs.declared.allocator.Allocator.{Allocator}
-use Rattle.cfb_owned.specs.Chains.{RunsOut}
-use Rattle.cfb_owners.proofs.SoundIs.{all_once}
-use Rattle.cfb_owners.proofs.UsedParts.{all_keys, key_of}
-use Rattle.cfb_owners.specs.LiveFile.{tables_of, LiveFile}
-use Rattle.cfb_owners.specs.Owners.{directory_owner, first_of, mini_fat_owner, mini_stream_owner, stream_owner, Owners}
+use Rattle.cfb_chain_io.specs.ChainEffects.{AllocatorRunsOut}
+use Rattle.cfb_ownership.proofs.SoundIs.{all_once}
+use Rattle.cfb_ownership.proofs.UsedParts.{all_keys, key_of}
+use Rattle.cfb_ownership.specs.LiveFile.{tables_of, LiveFile}
+use Rattle.cfb_ownership.specs.Owners.{directory_owner, first_of, mini_fat_owner, mini_stream_owner, stream_owner, Owners}
 use Rattle.cfb_tree.proofs.NamesRead.{all_append}
 use Rattle.cfb_copying.specs.Steps.{sectors_among, CanHold, IsOriginal}
 use Rattle.cfb_copying.proofs.Counted.{sectors_size}
@@ -36,7 +36,7 @@ few_tables v count fat_count difat_count content total h lean less =
     omega (arith, most, fewer, named)
 
 module _ {F : Type 0} {g : Ghosts F} where
-  pub never_out : (a : Allocator F g) (v : Version) (had count others total : ℕ) → version_of a ≡ v → CanHold v total → IsLean a (others + had) → others + count ≤ total → RunsOut had count a → ⊥
+  pub never_out : (a : Allocator F g) (v : Version) (had count others total : ℕ) → version_of a ≡ v → CanHold v total → IsLean a (others + had) → others + count ≤ total → AllocatorRunsOut had count a → ⊥
   never_out a v had count others total version h lean fits out =
       let mid = out.mid in
       let taken = length out.more in
@@ -48,11 +48,11 @@ module _ {F : Type 0} {g : Ghosts F} where
       ⊎_elim (λ many. omega (arith, many, most, few, short, fits)) (λ many. omega (arith, many, few, fits)) out.full
 
 -- numbers of which none stands twice, one list behind the other
-differs : (x : ℕ) (ys : List ℕ) → IsNoneOf ys x → AllByRecursion (λ y. nat_eq x y ≡ false) ys
+differs : (x : ℕ) (ys : List ℕ) → IsNotIn ys x → AllByRecursion (λ y. nat_eq x y ≡ false) ys
 differs x [] none = tt
 differs x (y ∷ ys) none = ((let apart : x ≡ y → ⊥ = λ same. none 0 (omega arith) (sym same) in grind (arith, apart)), differs x ys (λ k inside. none (suc k) (omega (arith, inside))))
 
-distinct_once : (xs : List ℕ) → AreOnce xs → IsDistinct nat_eq xs
+distinct_once : (xs : List ℕ) → AreDistinct xs → IsDistinct nat_eq xs
 unfolding IsDistinct
 distinct_once [] once = tt
 distinct_once (x ∷ xs) once = (
@@ -60,22 +60,22 @@ distinct_once (x ∷ xs) once = (
   distinct_once xs (λ k l k_inside l_inside same. let both = once (suc k) (suc l) (omega (arith, k_inside)) (omega (arith, l_inside)) same in omega (arith, both)),
 )
 
-first_differs : (x : ℕ) (xs ys : List ℕ) → AreNoneOf (x ∷ xs) ys → AllByRecursion (λ y. nat_eq x y ≡ false) ys
+first_differs : (x : ℕ) (xs ys : List ℕ) → AreDisjoint (x ∷ xs) ys → AllByRecursion (λ y. nat_eq x y ≡ false) ys
 first_differs x xs [] none = tt
 first_differs x xs (y ∷ ys) none = ((let apart : x ≡ y → ⊥ = none.0 0 (omega arith) in grind (arith, apart)), first_differs x xs ys none.1)
 
-rest_none : (x : ℕ) (xs ys : List ℕ) → AreNoneOf (x ∷ xs) ys → AreNoneOf xs ys
+rest_none : (x : ℕ) (xs ys : List ℕ) → AreDisjoint (x ∷ xs) ys → AreDisjoint xs ys
 rest_none x xs [] none = tt
 rest_none x xs (y ∷ ys) none = ((λ k inside. none.0 (suc k) (omega (arith, inside))), rest_none x xs ys none.1)
 
-distinct_append : (xs ys : List ℕ) → IsDistinct nat_eq xs → IsDistinct nat_eq ys → AreNoneOf xs ys → IsDistinct nat_eq (xs ++ ys)
+distinct_append : (xs ys : List ℕ) → IsDistinct nat_eq xs → IsDistinct nat_eq ys → AreDisjoint xs ys → IsDistinct nat_eq (xs ++ ys)
 unfolding IsDistinct
 distinct_append [] ys first second none = second
 distinct_append (x ∷ xs) ys first second none = (all_append (λ y. nat_eq x y ≡ false) xs ys first.0 (first_differs x xs ys none), distinct_append xs ys first.1 second (rest_none x xs ys none))
 
-none_swap : (xs ys : List ℕ) → AreNoneOf xs ys → AreNoneOf ys xs
+none_swap : (xs ys : List ℕ) → AreDisjoint xs ys → AreDisjoint ys xs
 none_swap [] ys none = tt
-none_swap (x ∷ xs) ys none = ((λ k inside same. holds_of_one (IsNoneOf (x ∷ xs)) ys (slice_index ys k) none (k, inside, refl) 0 (omega arith) (sym same)), none_swap xs ys (rest_none x xs ys none))
+none_swap (x ∷ xs) ys none = ((λ k inside same. holds_of_one (IsNotIn (x ∷ xs)) ys (slice_index ys k) none (k, inside, refl) 0 (omega arith) (sym same)), none_swap xs ys (rest_none x xs ys none))
 
 all_below : (count : ℕ) (xs : List ℕ) → AreBelow count xs → AllByRecursion (λ n. n < count) xs
 all_below count [] below = tt
@@ -93,10 +93,10 @@ any_below count (x ∷ xs) below q found =
     grind (arith, common_steps, here, later)
 
 -- lists by keys, which have no number in common
-module _ (own : ℕ → List ℕ) (count : ℕ) (once : (k : ℕ) → IsDistinct nat_eq (own k)) (apart : (k l : ℕ) → (k ≡ l → ⊥) → AreNoneOf (own k) (own l)) (below : (k : ℕ) → AllByRecursion (λ n. n < count) (own k)) where
-  none_of_rest : (k : ℕ) (keys : List ℕ) → AllByRecursion (λ l. nat_eq k l ≡ false) keys → AreNoneOf (own k) (flat_map own keys)
+module _ (own : ℕ → List ℕ) (count : ℕ) (once : (k : ℕ) → IsDistinct nat_eq (own k)) (apart : (k l : ℕ) → (k ≡ l → ⊥) → AreDisjoint (own k) (own l)) (below : (k : ℕ) → AllByRecursion (λ n. n < count) (own k)) where
+  none_of_rest : (k : ℕ) (keys : List ℕ) → AllByRecursion (λ l. nat_eq k l ≡ false) keys → AreDisjoint (own k) (flat_map own keys)
   none_of_rest k [] differ = tt
-  none_of_rest k (l ∷ keys) differ = all_append (IsNoneOf (own k)) (own l) (flat_map own keys) (apart k l (let test = differ.0 in grind (arith, test))) (none_of_rest k keys differ.1)
+  none_of_rest k (l ∷ keys) differ = all_append (IsNotIn (own k)) (own l) (flat_map own keys) (apart k l (let test = differ.0 in grind (arith, test))) (none_of_rest k keys differ.1)
 
   keys_distinct : (keys : List ℕ) → IsDistinct nat_eq keys → IsDistinct nat_eq (flat_map own keys)
   unfolding IsDistinct
@@ -127,7 +127,7 @@ module _ {F : Type 0} {g : Ghosts F} (a : Allocator F g) (s : LiveFile) (who : O
   used_once zero = distinct_once (tables_of s) h.held.kept.tables.orderly.once
   used_once (suc k) = distinct_once (who.sectors k) (chain_once s.fat (first_of (who.sectors k)) (who.sectors k) (h.held.kept.owned.linked k))
 
-  used_apart : (k l : ℕ) → (k ≡ l → ⊥) → AreNoneOf (used_of s who k) (used_of s who l)
+  used_apart : (k l : ℕ) → (k ≡ l → ⊥) → AreDisjoint (used_of s who k) (used_of s who l)
   used_apart zero zero other = absurd (other refl)
   used_apart zero (suc l) other = h.held.kept.owned.beside l
   used_apart (suc k) zero other = none_swap (tables_of s) (who.sectors k) (h.held.kept.owned.beside k)

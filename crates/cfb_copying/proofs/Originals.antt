@@ -11,14 +11,14 @@ use Rattle.cfb_sectors.specs.Header.{mini_cutoff}
 use Rattle.cfb_sectors.specs.Sectors.{joined, Chain}
 use Rattle.cfb_chains.proofs.ChainWriting.{length-joined}
 use Rattle.cfb_directory.proofs.EntryBytes.{length-entries}
-use Rattle.cfb_fat.specs.Tables.{fat_of, version_of, AllRests}
+use Rattle.cfb_fat.specs.Tables.{fat_of, version_of, OnlyReadsAllocator}
 use Rattle.cfb_fat.specs.declared.allocator.Allocator.{Allocator}
-use Rattle.cfb_owners.specs.Held.{HasStream}
-use Rattle.cfb_owners.specs.LiveFile.{LiveFile}
-use Rattle.cfb_owners.specs.Owners.{directory_owner, first_of, stream_owner, Owners}
-use Rattle.cfb_owners.proofs.HoldsById.{each_part, IsPart}
+use Rattle.cfb_ownership.specs.Held.{OwnerHasStream}
+use Rattle.cfb_ownership.specs.LiveFile.{LiveFile}
+use Rattle.cfb_ownership.specs.Owners.{directory_owner, first_of, stream_owner, Owners}
+use Rattle.cfb_ownership.proofs.HoldsById.{each_part, IsPart}
 use Rattle.cfb_tree.specs.Directory.{kind_stream, Entry}
-use Rattle.cfb_copying.specs.Making.{IsMade, IsOneOf}
+use Rattle.cfb_copying.specs.Making.{IsFileInProgress, IsOneOf}
 use Rattle.cfb_copying.specs.Steps.{CanPut, FillSectors, IsOriginal}
 
 -- what holds of all holds of one
@@ -37,7 +37,7 @@ some_sectors V3 len count is some = omega (arith, is, some)
 some_sectors V4 len count is some = omega (arith, is, some)
 
 module _ {F : Type 0} {g : Ghosts F} where
-  pub original_rests : (a b : Allocator F g) (s : LiveFile) (who : Owners) (ids : List ℕ) → AllRests a b → IsOriginal a s who ids → IsOriginal b s who ids
+  pub original_rests : (a b : Allocator F g) (s : LiveFile) (who : Owners) (ids : List ℕ) → OnlyReadsAllocator a b → IsOriginal a s who ids → IsOriginal b s who ids
   original_rests a b s who ids rests h = record {
     letters = h.letters;
     tree = h.tree;
@@ -59,9 +59,9 @@ module _ {F : Type 0} {g : Ghosts F} where
         let right = ap (nat_eq 0) same in
         grind (arith, wrong, right)
 
-    pub part_of : (id : ℕ) → IsOneOf ids id → IsPart s.entries (HasStream s who) id
+    pub part_of : (id : ℕ) → IsOneOf ids id → IsPart s.entries (OwnerHasStream s who) id
     part_of id one =
-        holds_of_one (IsPart s.entries (HasStream s who)) h.held.ids id (each_part s.entries (HasStream s who) h.tree.content h.held.children h.held.ids h.held.holds) (subst (λ l. IsOneOf l id) h.all one)
+        holds_of_one (IsPart s.entries (OwnerHasStream s who)) h.held.ids id (each_part s.entries (OwnerHasStream s who) h.tree.content h.held.children h.held.ids h.held.holds) (subst (λ l. IsOneOf l id) h.all one)
 
     pub entry_there : (id : ℕ) → IsOneOf ids id → id < length s.entries
     entry_there id one = let part = part_of id one in slice_get_within s.entries id part.0 part.1
@@ -101,7 +101,7 @@ module _ {F : Type 0} {g : Ghosts F} where
 module _ {F : Type 0} {g : Ghosts F} {T : Type 0} {t : Ghosts T} where
   -- an owner's chain can be copied
   pub can_put : (a : Allocator F g) (b : Allocator T t) (s : LiveFile) (who : Owners) (ids : List ℕ) (start d m key : ℕ) (own bytes : ℕ → List ℕ) → IsOriginal a s who ids → start ≡ first_of (who.sectors key)
-      → version_of b ≡ s.version → IsMade d m b own bytes → own key ≡ [] → CanPut a start b d m key own bytes (who.sectors key)
+      → version_of b ≡ s.version → IsFileInProgress d m b own bytes → own key ≡ [] → CanPut a start b d m key own bytes (who.sectors key)
   can_put a b s who ids start d m key own bytes h starts version made none = record {
     honest = h.honest;
     chain = subst (λ n. Chain (fat_of a) n (who.sectors key)) (sym starts) (subst (λ table. Chain table (first_of (who.sectors key)) (who.sectors key)) (sym h.fat) (h.held.kept.owned.linked key));

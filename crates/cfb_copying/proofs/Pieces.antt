@@ -9,10 +9,10 @@ use Rattle.cfb_medium.specs.declared.version.Version.{Version}
 use Rattle.cfb_medium.specs.declared.medium.ReadMedium.{Ghosts}
 use Rattle.cfb_sectors.specs.Sectors.{joined, sector}
 use Rattle.cfb_chains.specs.Behind.{AreWhole}
-use Rattle.cfb_chains.specs.Changes.{AreNoneOf, IsNoneOf}
-use Rattle.cfb_chains.specs.Grown.{IsLinked}
+use Rattle.cfb_chains.specs.Changes.{AreDisjoint, IsNotIn}
+use Rattle.cfb_chains.specs.Grown.{IsChainInTable}
 use Rattle.cfb_chains.specs.LinkViews.{ids_of}
-use Rattle.cfb_chains.specs.Owned.{Becomes}
+use Rattle.cfb_chains.specs.Owned.{ReplacesChain}
 use Rattle.cfb_chains.specs.Positions.{sectors_for}
 use Rattle.cfb_chains.specs.declared.links.Links.{Links}
 use Rattle.cfb_chains.proofs.ChainGrowing.{among_more}
@@ -20,11 +20,11 @@ use Rattle.cfb_chains.proofs.ChainWriting.{length_within}
 use Rattle.cfb_chains.proofs.Overwriting.{get_written}
 use Rattle.cfb_fat.specs.declared.allocator.Allocator.{Allocator}
 use Rattle.cfb_fat.specs.Seeing.{seen_of}
-use Rattle.cfb_fat.specs.Tables.{bytes_of, tables_of, version_of, AllRests}
-use Rattle.cfb_owned.specs.Chains.{content_of, place_of, HasChain, HasLinks, Overwrites, Resizes}
+use Rattle.cfb_fat.specs.Tables.{bytes_of, tables_of, version_of, OnlyReadsAllocator}
+use Rattle.cfb_chain_io.specs.ChainEffects.{content_of, place_of, HasDataChain, HasFatChain, Overwrites, Resizes}
 use Rattle.cfb_sectors.specs.declared.initial.SectorInit.{SectorInit}
-use Rattle.cfb_owned.proofs.Owning.{becomes_then, none_behind_all}
-use Rattle.cfb_owned.proofs.WrittenParts.{over_then}
+use Rattle.cfb_chain_io.proofs.Owning.{becomes_then, none_behind_all}
+use Rattle.cfb_chain_io.proofs.WrittenParts.{over_then}
 use Rattle.cfb_copying.specs.Chains.{CopiesChain}
 use Rattle.cfb_chains.proofs.Extending.{whole_sectors}
 
@@ -47,19 +47,19 @@ as_long v w n m is same = ap (λ u. m * sector_len u) same ∙ ap (λ k. k * sec
 
 module _ {F : Type 0} {g : Ghosts F} where
   -- a file that was only read has the chain, with its bytes
-  pub links_rest : (a b : Allocator F g) (links : Links) → AllRests a b → HasLinks a links → HasLinks b links
+  pub links_rest : (a b : Allocator F g) (links : Links) → OnlyReadsAllocator a b → HasFatChain a links → HasFatChain b links
   links_rest a b links rests has = record {
     honest = subst IsTrue (sym rests.sectors.honest) has.honest;
     version = has.version ∙ sym rests.sectors.version;
-    linked = subst (λ table. IsLinked table (ids_of links)) (sym rests.fat) has.linked;
+    linked = subst (λ table. IsChainInTable table (ids_of links)) (sym rests.fat) has.linked;
   }
 
-  pub content_rests : (a b : Allocator F g) (links : Links) → AllRests a b → HasLinks a links → content_of b links ≡ content_of a links
+  pub content_rests : (a b : Allocator F g) (links : Links) → OnlyReadsAllocator a b → HasFatChain a links → content_of b links ≡ content_of a links
   content_rests a b links rests has =
       ap (λ v. joined v (bytes_of b) (ids_of links)) rests.sectors.version ∙ ap (λ l. joined (version_of a) l (ids_of links)) (rests.sectors.bytes has.honest)
 
   -- bytes and others behind them were written over
-  pub overwrites_then : (at next : ℕ) (xs ys : List ℕ) (a m b : Allocator F g) (links : Links) → HasChain a links → Overwrites at xs a m links → Overwrites next ys m b links
+  pub overwrites_then : (at next : ℕ) (xs ys : List ℕ) (a m b : Allocator F g) (links : Links) → HasDataChain a links → Overwrites at xs a m links → Overwrites next ys m b links
       → next ≡ at + length xs → next + length ys ≤ length (content_of a links) → Overwrites at (xs ++ ys) a b links
   unfolding seen_of
   overwrites_then at next xs ys a m b links chain first then is within =
@@ -68,7 +68,7 @@ module _ {F : Type 0} {g : Ghosts F} where
       record {
         chain = then.chain;
         becomes = becomes_then (sector (version_of a)) ids [] ids ids (seen_of a) (seen_of m) (seen_of b) first.becomes (among_more ids [] ids (λ n none. none))
-            (subst (λ v. Becomes (sector v) [] ids [] ids (seen_of m) (seen_of b)) same then.becomes) tt;
+            (subst (λ v. ReplacesChain (sector v) [] ids [] ids (seen_of m) (seen_of b)) same then.becomes) tt;
         content = then.content ∙ ap (λ l. overwritten l next ys) first.content ∙ over_then (content_of a links) xs ys at next is within;
         there = λ k from to.
             let both = length-append xs ys in
@@ -79,7 +79,7 @@ module _ {F : Type 0} {g : Ghosts F} where
       }
 
   -- a piece of some bytes behind those that were written before
-  pub piece_then : (done count : ℕ) (bytes piece : List ℕ) (a m b : Allocator F g) (links : Links) → HasChain a links → Overwrites 0 (take done bytes) a m links → Overwrites done piece m b links
+  pub piece_then : (done count : ℕ) (bytes piece : List ℕ) (a m b : Allocator F g) (links : Links) → HasDataChain a links → Overwrites 0 (take done bytes) a m links → Overwrites done piece m b links
       → piece ≡ take count (drop done bytes) → done ≡ length (take done bytes) → done + length piece ≤ length (content_of a links) → Overwrites 0 (take (done + count) bytes) a b links
   piece_then done count bytes piece a m b links chain first then is size within =
       subst (λ l. Overwrites 0 l a b links) (ap (λ l. take done bytes ++ l) is ∙ sym (take-add done count bytes))
@@ -100,8 +100,8 @@ module _ {F : Type 0} {g : Ghosts F} where
         more = grown.more;
         sectors = all;
         chain = did.chain;
-        becomes = becomes_then S (ids_of before) grown.more ids ids (seen_of a) (seen_of m) (seen_of b) grown.becomes (λ n loose. subst (λ l. IsNoneOf l n) (sym all) loose)
-            (subst (λ v. Becomes (sector v) [] ids [] ids (seen_of m) (seen_of b)) same did.becomes) (none_behind_all (tables_of b) (ids_of before) grown.more (subst (AreNoneOf (tables_of b)) all did.chain.beside));
+        becomes = becomes_then S (ids_of before) grown.more ids ids (seen_of a) (seen_of m) (seen_of b) grown.becomes (λ n loose. subst (λ l. IsNotIn l n) (sym all) loose)
+            (subst (λ v. ReplacesChain (sector v) [] ids [] ids (seen_of m) (seen_of b)) same did.becomes) (none_behind_all (tables_of b) (ids_of before) grown.more (subst (AreDisjoint (tables_of b)) all did.chain.beside));
         content_is = did.content ∙ over_whole (content_of m links) bytes size;
         whole = whole_still (version_of a) grown.more (bytes_of m) (bytes_of b) did.becomes.leaves.longer grown.whole;
       }

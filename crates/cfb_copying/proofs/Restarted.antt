@@ -7,7 +7,7 @@ use Rattle.std.proofs.lemmas.Option.{slice_get_within, slice_get-get_or}
 use Rattle.cfb_sectors.specs.Header.{mini_cutoff}
 use Rattle.cfb_tree.specs.Tree.{nothing, storage, stream, Content}
 use Rattle.cfb_tree.specs.Directory.{kind_stream, none, some, Entry, HasName, Siblings}
-use Rattle.cfb_owners.specs.Held.{HoldsAt}
+use Rattle.cfb_ownership.specs.Held.{HoldsAt}
 use Rattle.cfb_copying.specs.Copied.{color_then, IsLongAmong, Repairs, Restarts}
 use Rattle.cfb_copying.proofs.Tight.{one_is_not_none, one_or_none}
 use Rattle.cfb_siblings.proofs.Lists.{all_parts}

@@ -9,18 +9,18 @@ use Rattle.std.proofs.lemmas.List.{get_or_append_left}
 use Rattle.cfb_medium.specs.declared.medium.ReadMedium.{Ghosts}
 use Rattle.cfb_sectors.specs.Header.{mini_cutoff}
 use Rattle.cfb_sectors.specs.Sectors.{end_of_chain, joined}
-use Rattle.cfb_chains.specs.Changes.{IsNoneOf}
+use Rattle.cfb_chains.specs.Changes.{IsNotIn}
 use Rattle.cfb_fat.specs.Growing.{IsLean}
 use Rattle.cfb_fat.specs.Keeping.{lean_same}
 use Rattle.cfb_fat.specs.Tables.{version_of}
 use Rattle.cfb_fat.specs.declared.allocator.Allocator.{Allocator}
-use Rattle.cfb_owners.specs.LiveFile.{LiveFile}
-use Rattle.cfb_owners.specs.Owners.{directory_owner, first_of, mini_fat_owner, mini_stream_owner, stream_owner, Owners}
+use Rattle.cfb_ownership.specs.LiveFile.{LiveFile}
+use Rattle.cfb_ownership.specs.Owners.{directory_owner, first_of, mini_fat_owner, mini_stream_owner, stream_owner, Owners}
 use Rattle.cfb_siblings.proofs.Colors.{set_other}
 use Rattle.cfb_siblings.proofs.Frames.{set_found}
 use Rattle.cfb_tree.specs.Directory.{kind_stream, Entry}
 use Rattle.cfb_copying.specs.Copied.{IsLongAmong, Restarts}
-use Rattle.cfb_copying.specs.Making.{with_list, IsMade, IsOneOf}
+use Rattle.cfb_copying.specs.Making.{with_list, IsFileInProgress, IsOneOf}
 use Rattle.cfb_copying.specs.Steps.{sectors_among, HasCopied, IsNext}
 use Rattle.cfb_copying.proofs.Counted.{sectors_more}
 use Rattle.cfb_copying.proofs.CopiedTight.{one_behind, one_of_two}
@@ -38,7 +38,7 @@ one_or_last : (xs : List ℕ) (n k : ℕ) → IsOneOf (xs ++ n ∷ []) k → IsO
 one_or_last xs n k one = ⊎_elim (λ front. inl front) (λ last. ⊎_elim (λ same. inr (sym same)) (λ nothing. let below = nothing.1 in absurd (omega (arith, below))) (one_behind [] n k last)) (one_of_two xs (n ∷ []) k one)
 
 -- the next of numbers of which none stands twice is none of those before it
-pub next_fresh : (xs : List ℕ) (i : ℕ) → IsDistinct nat_eq xs → i < length xs → IsNoneOf (take i xs) (slice_index xs i)
+pub next_fresh : (xs : List ℕ) (i : ℕ) → IsDistinct nat_eq xs → i < length xs → IsNotIn (take i xs) (slice_index xs i)
 unfolding IsDistinct
 next_fresh [] i once below = absurd (omega (arith, below))
 next_fresh (x ∷ xs) zero once below = λ k there same. absurd (omega (arith, there))
@@ -49,7 +49,7 @@ next_fresh (x ∷ xs) (suc i) once below = by_place (next_fresh xs i once.1 (ome
     other_than (y ∷ ys) zero all there same = let wrong = all.0 in let right = ap (nat_eq x) same in grind (arith, wrong, right)
     other_than (y ∷ ys) (suc j) all there same = other_than ys j all.1 (omega (arith, there)) same
 
-    by_place : IsNoneOf (take i xs) (slice_index xs i) → IsNoneOf (take (suc i) (x ∷ xs)) (slice_index (x ∷ xs) (suc i))
+    by_place : IsNotIn (take i xs) (slice_index xs i) → IsNotIn (take (suc i) (x ∷ xs)) (slice_index (x ∷ xs) (suc i))
     by_place later zero there same = other_than xs i once.0 (omega (arith, below)) same
     by_place later (suc k) there same = later k (omega (arith, there)) same
 
@@ -89,7 +89,7 @@ module _ (es : List Entry) (done : List ℕ) (id : ℕ) (e : Entry) (found : sli
     }
 
   -- a long one begins where its copy does
-  module _ (kind : e.kind ≡ kind_stream) (long : mini_cutoff ≤ e.size) (fresh : IsNoneOf done id) (past : id ≡ 0 → ⊥) (sectors : List ℕ) where
+  module _ (kind : e.kind ≡ kind_stream) (long : mini_cutoff ≤ e.size) (fresh : IsNotIn done id) (past : id ≡ 0 → ⊥) (sectors : List ℕ) where
     here : IsLongAmong es more id
     here = record { entry = e; found = found; of_kind = kind; long = long; among = one_at_end done id }
 
@@ -124,7 +124,7 @@ module _ (es : List Entry) (done : List ℕ) (id : ℕ) (e : Entry) (found : sli
 
 module _ {F : Type 0} {g : Ghosts F} (s : LiveFile) (who : Owners) (done minis : List ℕ) (later : List Entry) (id : ℕ) (e : Entry) (found : slice_get s.entries id ≡ Some e) where
   -- it has its entry yet
-  pub entry_yet : (a : Allocator F g) → HasCopied s who done minis later a → IsNoneOf done id → (id ≡ 0 → ⊥) → slice_get later id ≡ Some e
+  pub entry_yet : (a : Allocator F g) → HasCopied s who done minis later a → IsNotIn done id → (id ≡ 0 → ⊥) → slice_get later id ≡ Some e
   entry_yet a h fresh past = h.restarts.other id past (λ it. one_is_not_none done id it.among fresh) ∙ found
 
   -- what is no long stream needs nothing
@@ -145,8 +145,8 @@ module _ {F : Type 0} {g : Ghosts F} (s : LiveFile) (who : Owners) (done minis :
   }
 
   -- a long one was copied to sectors of its own
-  pub long_then : (a b : Allocator F g) (sectors : List ℕ) → (h : HasCopied s who done minis later a) → e.kind ≡ kind_stream → mini_cutoff ≤ e.size → IsNoneOf done id → (id ≡ 0 → ⊥) → version_of b ≡ version_of a
-      → IsMade 1 end_of_chain b (with_list (stream_owner id) sectors h.own) (with_list (stream_owner id) (joined s.version s.bytes (who.sectors (stream_owner id))) h.bytes)
+  pub long_then : (a b : Allocator F g) (sectors : List ℕ) → (h : HasCopied s who done minis later a) → e.kind ≡ kind_stream → mini_cutoff ≤ e.size → IsNotIn done id → (id ≡ 0 → ⊥) → version_of b ≡ version_of a
+      → IsFileInProgress 1 end_of_chain b (with_list (stream_owner id) sectors h.own) (with_list (stream_owner id) (joined s.version s.bytes (who.sectors (stream_owner id))) h.bytes)
       → IsLean b (length (sectors_among who done) + 1 + length (who.sectors (stream_owner id)))
       → HasCopied s who (done ++ id ∷ []) minis (slice_set later id (record e { start = first_of sectors })) b
   long_then a b sectors h kind long fresh past same made lean =

@@ -1,11 +1,11 @@
 -- No sector is spare after a change that gives all that it takes to one owner.
 use Rattle.std.proofs.Common.{◌≡◌, ℕ, zero, suc, ◌⊎◌, inl, inr, List, [], ◌∷◌, length, sym, subst, arith, ⊎_elim}
 use Rattle.std.proofs.lemmas.Bool.Decides.{eqb_tells, leb_tells}
-use Rattle.cfb_chains.specs.Changes.{IsNoneOf}
-use Rattle.cfb_chains.specs.Owned.{Leaves, Seen}
+use Rattle.cfb_chains.specs.Changes.{IsNotIn}
+use Rattle.cfb_chains.specs.Owned.{ChangesAtMost, SectorLayer}
 use Rattle.cfb_copying.specs.Making.{HasNoSpare, IsOneOf}
 
-pub one_or_none : (xs : List ℕ) (n : ℕ) → IsOneOf xs n ⊎ IsNoneOf xs n
+pub one_or_none : (xs : List ℕ) (n : ℕ) → IsOneOf xs n ⊎ IsNotIn xs n
 one_or_none [] n = inr (λ k below same. absurd (omega (arith, below)))
 one_or_none (x ∷ xs) n = ⊎_elim
     (λ same. inl (zero, omega arith, same.1))
@@ -15,19 +15,19 @@ one_or_none (x ∷ xs) n = ⊎_elim
     (one_or_none xs n))
     (eqb_tells x n)
   where
-    never : (x ≡ n → ⊥) → IsNoneOf xs n → IsNoneOf (x ∷ xs) n
+    never : (x ≡ n → ⊥) → IsNotIn xs n → IsNotIn (x ∷ xs) n
     never other none zero below same = other same
     never other none (suc k) below same = none k (omega (arith, below)) same
 
-pub not_none : (xs : List ℕ) (n : ℕ) → (IsNoneOf xs n → ⊥) → IsOneOf xs n
+pub not_none : (xs : List ℕ) (n : ℕ) → (IsNotIn xs n → ⊥) → IsOneOf xs n
 not_none xs n wrong = ⊎_elim (λ one. one) (λ none. absurd (wrong none)) (one_or_none xs n)
 
-pub one_is_not_none : (xs : List ℕ) (n : ℕ) → IsOneOf xs n → IsNoneOf xs n → ⊥
+pub one_is_not_none : (xs : List ℕ) (n : ℕ) → IsOneOf xs n → IsNotIn xs n → ⊥
 one_is_not_none xs n one none = none one.0 one.1 one.2
 
 -- what is touched comes to the owner, who keeps what he had
-pub tight_then : (S : List ℕ → ℕ → List ℕ) (words touched : List ℕ) (key : ℕ) (a b : Seen) (own later : ℕ → List ℕ) → HasNoSpare a own → Leaves S words touched a b
-    → ((n : ℕ) → IsNoneOf (later key) n → IsNoneOf touched n) → ((n : ℕ) → IsNoneOf (later key) n → IsNoneOf (own key) n) → ((k : ℕ) → (k ≡ key → ⊥) → later k ≡ own k) → HasNoSpare b later
+pub tight_then : (S : List ℕ → ℕ → List ℕ) (words touched : List ℕ) (key : ℕ) (a b : SectorLayer) (own later : ℕ → List ℕ) → HasNoSpare a own → ChangesAtMost S words touched a b
+    → ((n : ℕ) → IsNotIn (later key) n → IsNotIn touched n) → ((n : ℕ) → IsNotIn (later key) n → IsNotIn (own key) n) → ((k : ℕ) → (k ≡ key → ⊥) → later k ≡ own k) → HasNoSpare b later
 tight_then S words touched key a b own later tight leaves takes keeps others n below = ⊎_elim
     (λ past. ⊎_elim (λ one. inr (key, one)) (λ none. inl (not_none b.tables n (leaves.behind n past.1 below (takes n none)).0)) (one_or_none (later key) n))
     (λ before. ⊎_elim

@@ -8,16 +8,16 @@ use Rattle.cfb_medium.specs.declared.medium.ReadMedium.{Ghosts}
 use Rattle.cfb_sectors.specs.Header.{directory_sector_count, first_mini_fat_sector, mini_fat_sector_count, IsHeader}
 use Rattle.cfb_sectors.specs.Sectors.{filled_part, joined, sector}
 use Rattle.cfb_chains.specs.Behind.{AreWhole}
-use Rattle.cfb_chains.specs.Owned.{AreBesideWords, Leaves}
+use Rattle.cfb_chains.specs.Owned.{AreBesideWords, ChangesAtMost}
 use Rattle.cfb_chains.proofs.Overwriting.{written}
 use Rattle.cfb_chains.proofs.Owners.{each_left, owned_still}
 use Rattle.cfb_fat.specs.Seeing.{seen_of}
 use Rattle.cfb_fat.specs.Tables.{bytes_of, has_failed_here, version_of}
 use Rattle.cfb_fat.specs.declared.allocator.Allocator.{Allocator}
 use Rattle.cfb_fat.proofs.Words.{filled_is}
-use Rattle.cfb_owned.specs.Chains.{GoesOn}
+use Rattle.cfb_chain_io.specs.ChainEffects.{KeepsFileInvariants}
 use Rattle.cfb_directory.proofs.Stages.{number_kept, number_there}
-use Rattle.cfb_copying.specs.Making.{IsMade}
+use Rattle.cfb_copying.specs.Making.{IsFileInProgress}
 use Rattle.cfb_copying.proofs.Pieces.{whole_still}
 use Rattle.cfb_copying.proofs.Tight.{tight_then}
 
@@ -63,8 +63,8 @@ module _ (old new : List ℕ) (word : ℕ) (told : IsTold word) (whole : 512 ≤
   }
 
 module _ {F : Type 0} {g : Ghosts F} where
-  pub made_word : (d m word : ℕ) (a b : Allocator F g) (own bytes : ℕ → List ℕ) → IsMade d m a own bytes → GoesOn a b → has_failed_here b ≡ false → IsTold word
-      → Leaves (sector (version_of a)) (word ∷ []) [] (seen_of a) (seen_of b) → IsMade d (first_mini_fat_sector (bytes_of b)) b own bytes
+  pub made_word : (d m word : ℕ) (a b : Allocator F g) (own bytes : ℕ → List ℕ) → IsFileInProgress d m a own bytes → KeepsFileInvariants a b → has_failed_here b ≡ false → IsTold word
+      → ChangesAtMost (sector (version_of a)) (word ∷ []) [] (seen_of a) (seen_of b) → IsFileInProgress d (first_mini_fat_sector (bytes_of b)) b own bytes
   unfolding seen_of
   made_word d m word a b own bytes made goes live told leaves =
       let v = version_of a in
@@ -86,23 +86,23 @@ module _ {F : Type 0} {g : Ghosts F} where
       }
 
   -- how many sectors the directory has
-  pub count_told : (d m : ℕ) (a b : Allocator F g) (own bytes : ℕ → List ℕ) → IsMade d m a own bytes → GoesOn a b → has_failed_here b ≡ false
-      → Leaves (sector (version_of a)) (40 ∷ []) [] (seen_of a) (seen_of b) → IsMade d m b own bytes
+  pub count_told : (d m : ℕ) (a b : Allocator F g) (own bytes : ℕ → List ℕ) → IsFileInProgress d m a own bytes → KeepsFileInvariants a b → has_failed_here b ≡ false
+      → ChangesAtMost (sector (version_of a)) (40 ∷ []) [] (seen_of a) (seen_of b) → IsFileInProgress d m b own bytes
   unfolding seen_of
   count_told d m a b own bytes made goes live leaves =
       let same : first_mini_fat_sector (bytes_of b) ≡ m = number_kept (bytes_of a) (bytes_of b) 60 (leaves.header 60 4 (omega arith) (inr (omega arith), (inr (omega arith), tt))) ∙ made.mini_fat_at in
-      subst (λ n. IsMade d n b own bytes) same (made_word d m 40 a b own bytes made goes live (inl refl) leaves)
+      subst (λ n. IsFileInProgress d n b own bytes) same (made_word d m 40 a b own bytes made goes live (inl refl) leaves)
 
   -- where the mini FAT begins
-  pub first_told : (d m : ℕ) (a b : Allocator F g) (own bytes : ℕ → List ℕ) (x : ℕ) {first : ℕ} → IsMade d m a own bytes → GoesOn a b → has_failed_here b ≡ false
-      → Leaves (sector (version_of a)) (60 ∷ []) [] (seen_of a) (seen_of b) → bytes_of b ≡ overwritten (bytes_of a) 60 (to_le_bytes w32 x) → x < 2 ^ 32 → x ≡ first → IsMade d first b own bytes
+  pub first_told : (d m : ℕ) (a b : Allocator F g) (own bytes : ℕ → List ℕ) (x : ℕ) {first : ℕ} → IsFileInProgress d m a own bytes → KeepsFileInvariants a b → has_failed_here b ≡ false
+      → ChangesAtMost (sector (version_of a)) (60 ∷ []) [] (seen_of a) (seen_of b) → bytes_of b ≡ overwritten (bytes_of a) 60 (to_le_bytes w32 x) → x < 2 ^ 32 → x ≡ first → IsFileInProgress d first b own bytes
   unfolding seen_of
   first_told d m a b own bytes x made goes live leaves now small is =
       let told : first_mini_fat_sector (bytes_of b) ≡ x = number_now (bytes_of a) (bytes_of b) 60 x now small in
-      subst (λ n. IsMade d n b own bytes) (told ∙ is) (made_word d m 60 a b own bytes made goes live (inr (omega arith)) leaves)
+      subst (λ n. IsFileInProgress d n b own bytes) (told ∙ is) (made_word d m 60 a b own bytes made goes live (inr (omega arith)) leaves)
 
   -- how many sectors the mini FAT has, and then where it begins; the directory's number stays
-  pub counts_told : (a m b : Allocator F g) (count : ℕ) → Leaves (sector (version_of a)) (64 ∷ []) [] (seen_of a) (seen_of m) → Leaves (sector (version_of m)) (60 ∷ []) [] (seen_of m) (seen_of b)
+  pub counts_told : (a m b : Allocator F g) (count : ℕ) → ChangesAtMost (sector (version_of a)) (64 ∷ []) [] (seen_of a) (seen_of m) → ChangesAtMost (sector (version_of m)) (60 ∷ []) [] (seen_of m) (seen_of b)
       → bytes_of m ≡ overwritten (bytes_of a) 64 (to_le_bytes w32 count) → count < 2 ^ 32 → (mini_fat_sector_count (bytes_of b) ≡ count) × (directory_sector_count (bytes_of b) ≡ directory_sector_count (bytes_of a))
   unfolding seen_of
   counts_told a m b count first second now small = (

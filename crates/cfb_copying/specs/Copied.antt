@@ -7,16 +7,16 @@ use Rattle.cfb_medium.specs.declared.version.Version.{Version}
 use Rattle.cfb_sectors.specs.Header.{directory_sector_count, first_directory_sector, first_mini_fat_sector, mini_cutoff, mini_fat_sector_count, IsHeader}
 use Rattle.cfb_sectors.specs.Sectors.{fat_in, joined, sectors_in}
 use Rattle.cfb_chains.specs.Behind.{AreWhole}
-use Rattle.cfb_chains.specs.Owned.{Owned}
-use Rattle.cfb_fat.specs.Listed.{Counts, Ends}
+use Rattle.cfb_chains.specs.Owned.{OwnDisjointChains}
+use Rattle.cfb_fat.specs.Listed.{Counts, EndsAsStrict}
 use Rattle.cfb_tree.specs.Directory.{black, entries_of, kind_stream, kind_unallocated, Entry, HasName}
 use Rattle.cfb_tree.specs.Entries.{IsBlackAt}
-use Rattle.cfb_tree.specs.Names.{Letters}
+use Rattle.cfb_tree.specs.Names.{CaseTable}
 use Rattle.cfb_tree.specs.Tree.{Tree}
-use Rattle.cfb_meaning.specs.Means.{directory, directory_count, Layout}
-use Rattle.cfb_meaning.specs.Sound.{in_file, IsSoundBy, Part}
-use Rattle.cfb_owners.specs.LiveFile.{tables_of, HoldsTables, LiveFile}
-use Rattle.cfb_owners.specs.Owners.{directory_owner, first_of, mini_fat_owner, mini_stream_owner, stream_owner, Owners}
+use Rattle.cfb_spec.specs.Means.{directory, directory_count, Layout}
+use Rattle.cfb_spec.specs.Sound.{in_file, IsSoundBy, Part}
+use Rattle.cfb_ownership.specs.LiveFile.{tables_of, HoldsTables, LiveFile}
+use Rattle.cfb_ownership.specs.Owners.{directory_owner, first_of, mini_fat_owner, mini_stream_owner, stream_owner, Owners}
 use Rattle.cfb_copying.specs.Making.{HasNoSpare, IsOneOf}
 
 -- entry `id` is a stream of at least 4096 bytes, among these of the directory ([MS-CFB] 2.6.3)
@@ -57,11 +57,11 @@ pub record Repairs (size : ℕ) (old new : List Entry) : Type 0 where
 
 -- THE SECOND FILE IS A COPY of the first, whose tree has these entries: each chain has its bytes again, whole sectors that nothing
 -- else owns, and no sector is spare
-pub record IsCopied (s : LiveFile) (who : Owners) (ids : List ℕ) (t : LiveFile) (own : ℕ → List ℕ) : Type 0 where
+pub record IsFileCopied (s : LiveFile) (who : Owners) (ids : List ℕ) (t : LiveFile) (own : ℕ → List ℕ) : Type 0 where
   pub version : t.version ≡ s.version
   pub header : IsHeader t.version t.bytes
   pub tables : HoldsTables t
-  pub owned : Owned t.fat (tables_of t) own
+  pub owned : OwnDisjointChains t.fat (tables_of t) own
   pub whole : (k : ℕ) → AreWhole t.version t.bytes (own k)
   pub tight : HasNoSpare (record { bytes = t.bytes; table = t.fat; tables = tables_of t }) own
   pub directory_at : first_directory_sector t.bytes ≡ first_of (own directory_owner)
@@ -80,20 +80,20 @@ pub record IsCopied (s : LiveFile) (who : Owners) (ids : List ℕ) (t : LiveFile
 -- its header counts the sectors of all tables, and file and DIFAT end as a strict reader asks for ([MS-CFB] 2.1, 2.2, 2.5)
 pub record CountsTables (t : LiveFile) (own : ℕ → List ℕ) : Type 0 where
   pub told : Counts t.bytes t.difat_sectors t.fat_sectors
-  pub ends : Ends t.version t.bytes t.difat_sectors
+  pub ends : EndsAsStrict t.version t.bytes t.difat_sectors
   pub directory : directory_sector_count t.bytes ≡ directory_count t.version (length (own directory_owner))
   pub mini_fat : mini_fat_sector_count t.bytes ≡ length (own mini_fat_owner)
 
 -- the part is one of these
-abbrev pub IsUsed : Part → List Part → Type 0
-IsUsed part [] = ⊥
-IsUsed part (other ∷ parts) = (part ≡ other) ⊎ IsUsed part parts
+abbrev pub IsPartUsed : Part → List Part → Type 0
+IsPartUsed part [] = ⊥
+IsPartUsed part (other ∷ parts) = (part ≡ other) ⊎ IsPartUsed part parts
 
 -- a sound file of which every sector serves a use
-pub record IsTight (letters : Letters) (bytes : List ℕ) (tree : Tree) : Type 0 where
+pub record IsTight (letters : CaseTable) (bytes : List ℕ) (tree : Tree) : Type 0 where
   pub layout : Layout
   pub sound : IsSoundBy layout letters bytes tree
-  pub each : (n : ℕ) → n < sectors_in layout.version (length bytes) → IsUsed (in_file n) sound.parts
+  pub each : (n : ℕ) → n < sectors_in layout.version (length bytes) → IsPartUsed (in_file n) sound.parts
 
 -- what lenient readings let pass is right ([MS-CFB] 2.6.3, 2.6.4): the root's size is that of the mini stream's whole sectors, where a
 -- size of this version can be so great, and root and entries of the tree are black
@@ -107,7 +107,7 @@ abbrev pub HasRootName : List Entry → Type 0
 HasRootName entries = IfSome (slice_get entries 0) (λ root. HasName root (codes "Root Entry"))
 
 -- THE BYTES HOLD A COPY: a file of this version that means the tree, is sound, has no sector that serves no use, and is repaired
-pub record HoldsCopy (version : Version) (letters : Letters) (bytes : List ℕ) (tree : Tree) : Type 0 where
+pub record HoldsCopy (version : Version) (letters : CaseTable) (bytes : List ℕ) (tree : Tree) : Type 0 where
   pub header : IsHeader version bytes
   pub tight : IsTight letters bytes tree
   pub repaired : IsRepaired bytes tight.layout

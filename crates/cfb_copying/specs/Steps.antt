@@ -6,30 +6,30 @@ use Rattle.cfb_medium.specs.declared.error.Error.{Error}
 use Rattle.cfb_medium.specs.declared.medium.ReadMedium.{Ghosts}
 use Rattle.cfb_medium.specs.declared.version.Version.{Version}
 use Rattle.cfb_sectors.specs.Sectors.{end_of_chain, greatest_regular, joined, Chain}
-use Rattle.cfb_chains.specs.Changes.{IsNoneOf}
+use Rattle.cfb_chains.specs.Changes.{IsNotIn}
 use Rattle.cfb_creating.specs.NewFile.{new_directory}
 use Rattle.cfb_directory.specs.Entries.{SizesFit}
 use Rattle.cfb_fat.specs.Growing.{IsLean}
 use Rattle.cfb_fat.specs.Orderly.{named_at_most}
-use Rattle.cfb_fat.specs.Tables.{bytes_of, fat_of, has_failed_here, is_honest, version_of, AllRests, HasEnds, IsTold}
+use Rattle.cfb_fat.specs.Tables.{bytes_of, fat_of, has_failed_here, is_honest, version_of, OnlyReadsAllocator, HasEnds, HeaderCountsTables}
 use Rattle.cfb_fat.specs.declared.allocator.Allocator.{Allocator}
-use Rattle.cfb_owned.specs.Chains.{GoesOn}
-use Rattle.cfb_owners.specs.Held.{MeansHeld}
-use Rattle.cfb_owners.specs.LiveFile.{LiveFile}
-use Rattle.cfb_owners.specs.Owners.{directory_owner, first_of, mini_fat_owner, mini_stream_owner, stream_owner, Owners}
+use Rattle.cfb_chain_io.specs.ChainEffects.{KeepsFileInvariants}
+use Rattle.cfb_ownership.specs.Held.{OwnersHoldTree}
+use Rattle.cfb_ownership.specs.LiveFile.{LiveFile}
+use Rattle.cfb_ownership.specs.Owners.{directory_owner, first_of, mini_fat_owner, mini_stream_owner, stream_owner, Owners}
 use Rattle.cfb_tree.specs.Directory.{entries_of, Entry}
-use Rattle.cfb_tree.specs.Names.{Letters}
+use Rattle.cfb_tree.specs.Names.{CaseTable}
 use Rattle.cfb_tree.specs.Tree.{Tree}
-use Rattle.cfb_copying.specs.Chains.{HasCauseInEither, IsCopyFault}
-use Rattle.cfb_copying.specs.Copied.{CountsTables, IsCopied, IsLongAmong, Restarts}
-use Rattle.cfb_copying.specs.Making.{with_list, IsMade, IsOneOf}
+use Rattle.cfb_copying.specs.Chains.{IsJustifiedByEither, IsCopyError}
+use Rattle.cfb_copying.specs.Copied.{CountsTables, IsFileCopied, IsLongAmong, Restarts}
+use Rattle.cfb_copying.specs.Making.{with_list, IsFileInProgress, IsOneOf}
 
 -- a copy is made of the live file, whose tree has these entries, in these bytes; its root has this size, and the header's counts are
 -- right
 pub record HasCopy (s : LiveFile) (who : Owners) (ids : List ℕ) (size : ℕ) (bytes : List ℕ) : Type 0 where
   pub file : LiveFile
   pub own : ℕ → List ℕ
-  pub copied : IsCopied s who ids file own
+  pub copied : IsFileCopied s who ids file own
   pub sized : copied.root_size ≡ size
   pub counted : CountsTables file own
   pub bytes_are : file.bytes ≡ bytes
@@ -44,7 +44,7 @@ pub record FillSectors (version : Version) (entries : List Entry) : Type 0 where
 -- entry `id` is one of these, and none of those that are done, which stand before it
 pub record IsNext (ids done : List ℕ) (id : ℕ) : Type 0 where
   pub among : IsOneOf ids id
-  pub fresh : IsNoneOf done id
+  pub fresh : IsNotIn done id
   pub rest : List ℕ
   pub splits : ids ≡ done ++ id ∷ rest
 
@@ -64,9 +64,9 @@ pub record CanHold (version : Version) (content : ℕ) : Type 0 where
 module _ {F : Type 0} {g : Ghosts F} where
   -- the file that is copied: an honest one, seen as this live file, which holds a tree of these entries
   pub record IsOriginal (it : Allocator F g) (s : LiveFile) (who : Owners) (ids : List ℕ) : Type 0 where
-    pub letters : Letters
+    pub letters : CaseTable
     pub tree : Tree
-    pub held : MeansHeld s who letters tree
+    pub held : OwnersHoldTree s who letters tree
     pub all : ids ≡ held.ids
     pub sizes : SizesFit s.version s.entries
     pub honest : IsTrue (is_honest it)
@@ -75,11 +75,11 @@ module _ {F : Type 0} {g : Ghosts F} where
     pub fat : fat_of it ≡ s.fat
 
   -- it is a new file, of which the directory owns a sector, and its header counts its tables ([MS-CFB] 2)
-  pub record IsBegun (version : Version) (it : Allocator F g) : Type 0 where
-    pub made : IsMade 1 end_of_chain it (with_list directory_owner (1 ∷ []) (λ k. [])) (with_list directory_owner (new_directory version) (λ k. []))
+  pub record IsNewFileBegun (version : Version) (it : Allocator F g) : Type 0 where
+    pub made : IsFileInProgress 1 end_of_chain it (with_list directory_owner (1 ∷ []) (λ k. [])) (with_list directory_owner (new_directory version) (λ k. []))
     pub of_version : version_of it ≡ version
     pub lean : IsLean it 1
-    pub told : IsTold it
+    pub told : HeaderCountsTables it
     pub ends : HasEnds it
 
   -- So far mini FAT, mini stream and the long streams among `done` were copied, and these entries tell where they begin; the mini
@@ -87,7 +87,7 @@ module _ {F : Type 0} {g : Ghosts F} where
   pub record HasCopied (s : LiveFile) (who : Owners) (done minis : List ℕ) (later : List Entry) (it : Allocator F g) : Type 0 where
     pub own : ℕ → List ℕ
     pub bytes : ℕ → List ℕ
-    pub made : IsMade 1 end_of_chain it own bytes
+    pub made : IsFileInProgress 1 end_of_chain it own bytes
     pub version : version_of it ≡ s.version
     pub directory : own directory_owner ≡ 1 ∷ []
     pub minis_are : own mini_fat_owner ≡ minis
@@ -101,23 +101,23 @@ module _ {F : Type 0} {g : Ghosts F} where
   -- the directory holds these entries, and its chain begins where it did; all other owners have what they had
   pub record HasEntries (version : Version) (mini_fat : ℕ) (own bytes : ℕ → List ℕ) (entries : List Entry) (ids : List ℕ) (it : Allocator F g) : Type 0 where
     pub content : List ℕ
-    pub made : IsMade 1 mini_fat it (with_list directory_owner ids own) (with_list directory_owner content bytes)
+    pub made : IsFileInProgress 1 mini_fat it (with_list directory_owner ids own) (with_list directory_owner content bytes)
     pub begins : first_of ids ≡ 1
     pub held : entries_of version content ≡ entries
 
 module _ {F : Type 0} {g : Ghosts F} {T : Type 0} {h : Ghosts T} where
   -- A step: the first file is only read, and the second goes on. An error has its cause in one of them.
-  pub record Steps {R : Type 0} (result : Result R Error) (source read : Allocator F g) (target written : Allocator T h) : Type 0 where
-    pub rests : AllRests source read
-    pub goes_on : GoesOn target written
+  pub record CopiesOneStep {R : Type 0} (result : Result R Error) (source read : Allocator F g) (target written : Allocator T h) : Type 0 where
+    pub rests : OnlyReadsAllocator source read
+    pub goes_on : KeepsFileInvariants target written
     pub live : OnOk result (has_failed_here written ≡ false)
-    pub cause : IfErr result (HasCauseInEither source read target written)
-    pub fault : IfErr result IsCopyFault
+    pub cause : IfErr result (IsJustifiedByEither source read target written)
+    pub fault : IfErr result IsCopyError
 
   -- the source has a chain from this start, and in the file in the making, of the same version, the owner has nothing yet
   pub record CanPut (source : Allocator F g) (start : ℕ) (target : Allocator T h) (directory mini_fat key : ℕ) (own bytes : ℕ → List ℕ) (ids : List ℕ) : Type 0 where
     pub honest : IsTrue (is_honest source)
     pub chain : Chain (fat_of source) start ids
     pub version : version_of target ≡ version_of source
-    pub made : IsMade directory mini_fat target own bytes
+    pub made : IsFileInProgress directory mini_fat target own bytes
     pub none : own key ≡ []

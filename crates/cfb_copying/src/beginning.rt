@@ -1,5 +1,5 @@
 //! The file in the making, as it begins: a new file in memory ([MS-CFB] 2).
-ghost use Rattle.cfb_copying.specs.Steps.{IsBegun};
+ghost use Rattle.cfb_copying.specs.Steps.{IsNewFileBegun};
 ghost use Rattle.cfb_medium.specs.declared.error.Error.TheVariants.{Memory};
 ghost use Rattle.std.specs.Prelude.{IfErr, IfOk, ◌≡◌};
 
@@ -14,8 +14,8 @@ const FAT_AT: u32 = 0;
 
 // A new file of a version, in memory.
 pub(crate) fn begin_file(alloc: Global, version: Version) -> Result<Allocator<MemoryMedium>, Error>
-    ensures begun { IfOk result (IsBegun version) }
-    ensures error { IfErr result (λ e. e ≡ Memory) }
+    ensures begun { IfOk result (IsNewFileBegun version) }
+    ensures errors { IfErr result (λ e. e ≡ Memory) }
 {
     let bytes = new_file(alloc, version)?;
     let len = bytes.len() as u64;

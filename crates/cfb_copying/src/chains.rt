@@ -1,17 +1,17 @@
 //! The bytes of a chain, copied to a chain of another file ([MS-CFB] 2.3).
 ghost use Rattle.cfb_chains.specs.ChainCalls.{IsInvalidPlace};
 ghost use Rattle.cfb_chains.specs.LinkViews.{ids_of, links_version};
-ghost use Rattle.cfb_copying.specs.Chains.{CopiesChain, HasCauseInEither, IsCopyFault};
-ghost use Rattle.cfb_fat.specs.Tables.{has_failed_here, orderly_of, AllRests, KeepsTables};
-ghost use Rattle.cfb_medium.specs.Calls.{IsFaultUnless};
+ghost use Rattle.cfb_copying.specs.Chains.{CopiesChain, IsJustifiedByEither, IsCopyError};
+ghost use Rattle.cfb_fat.specs.Tables.{has_failed_here, orderly_of, OnlyReadsAllocator, KeepsTables};
+ghost use Rattle.cfb_medium.specs.Calls.{IsFaultOrInvalidInputIf};
 ghost use Rattle.cfb_medium.specs.declared.error.Error.TheVariants.{Full};
-ghost use Rattle.cfb_owned.specs.Chains.{content_of, len_of, GoesOn, HasChain, HasLinks, Overwrites, RunsOut, StaysLean};
+ghost use Rattle.cfb_chain_io.specs.ChainEffects.{content_of, len_of, KeepsFileInvariants, HasDataChain, HasFatChain, Overwrites, AllocatorRunsOut, StaysLean};
 ghost use Rattle.std.specs.Prelude.{false, length, IfErr, IsErrOf, IsTrue, OnOk, ◌<◌, ◌^◌, ◌≡◌, ◌≤◌, ◌⊎◌};
 
+use cfb_chain_io::{overwrite_chain, read_chain, set_chain_len};
 use cfb_chains::Links;
 use cfb_fat::Allocator;
 use cfb_medium::{Error, Medium, ReadMedium};
-use cfb_owned::{overwrite_chain, read_chain, set_chain_len};
 use cfb_sectors::{HasSectors, SectorInit};
 
 // So many bytes are copied at once.
@@ -33,16 +33,16 @@ fn copy_bytes<F: ReadMedium, T: Medium>(
     to: &Links,
 ) -> Result<(), Error>
     requires { len_of from.now ≡ len_of to.now }
-    ensures copied { OnOk result (HasLinks source.old from.now → HasChain target.old to.now
+    ensures copied { OnOk result (HasFatChain source.old from.now → HasDataChain target.old to.now
         → Overwrites 0 (content_of source.old from.now) target.old target.new to.now) }
-    ensures refused { IfErr result (λ e. IsInvalidPlace e → HasLinks source.old from.now
-        → HasChain target.old to.now → ⊥) }
+    ensures refused_only_if { IfErr result (λ e. IsInvalidPlace e → HasFatChain source.old from.now
+        → HasDataChain target.old to.now → ⊥) }
     ensures tables { OnOk result (KeepsTables target.old target.new) }
-    ensures rests { AllRests source.old source.new }
-    ensures goes_on { GoesOn target.old target.new }
-    ensures live { OnOk result (has_failed_here target.new ≡ false) }
-    ensures cause { IfErr result (HasCauseInEither source.old source.new target.old target.new) }
-    ensures fault { IfErr result (λ e. IsFaultUnless ⊥ e ⊎ IsInvalidPlace e) }
+    ensures only_reads { OnlyReadsAllocator source.old source.new }
+    ensures invariants { KeepsFileInvariants target.old target.new }
+    ensures not_failed { OnOk result (has_failed_here target.new ≡ false) }
+    ensures cause { IfErr result (IsJustifiedByEither source.old source.new target.old target.new) }
+    ensures errors { IfErr result (λ e. IsFaultOrInvalidInputIf ⊥ e ⊎ IsInvalidPlace e) }
 {
     if target.is_failed() {
         return Err(Error::Failed);
@@ -74,20 +74,20 @@ pub fn copy_chain<F: ReadMedium, T: Medium>(
 ) -> Result<(), Error>
     requires shorter { length (ids_of to.old) ≤ length (ids_of from.now) }
     requires version { links_version to.old ≡ links_version from.now }
-    ensures copied { OnOk result (HasLinks source.old from.now → HasChain target.old to.old
+    ensures copied { OnOk result (HasFatChain source.old from.now → HasDataChain target.old to.old
         → CopiesChain (content_of source.old from.now) target.old target.new to.old
         to.new) }
-    ensures refused { IfErr result (λ e. IsInvalidPlace e → HasLinks source.old from.now
-        → HasChain target.old to.old → IsTrue (orderly_of target.old) → ⊥) }
-    ensures stopped { IsErrOf result Full → RunsOut (length (ids_of to.old))
+    ensures refused_only_if { IfErr result (λ e. IsInvalidPlace e → HasFatChain source.old from.now
+        → HasDataChain target.old to.old → IsTrue (orderly_of target.old) → ⊥) }
+    ensures stopped { IsErrOf result Full → AllocatorRunsOut (length (ids_of to.old))
         (length (ids_of from.now)) target.old }
     ensures lean { OnOk result (StaysLean (length (ids_of to.old)) (length (ids_of from.now))
         target.old target.new) }
-    ensures rests { AllRests source.old source.new }
-    ensures goes_on { GoesOn target.old target.new }
-    ensures live { OnOk result (has_failed_here target.new ≡ false) }
-    ensures cause { IfErr result (HasCauseInEither source.old source.new target.old target.new) }
-    ensures fault { IfErr result IsCopyFault }
+    ensures only_reads { OnlyReadsAllocator source.old source.new }
+    ensures invariants { KeepsFileInvariants target.old target.new }
+    ensures not_failed { OnOk result (has_failed_here target.new ≡ false) }
+    ensures cause { IfErr result (IsJustifiedByEither source.old source.new target.old target.new) }
+    ensures errors { IfErr result IsCopyError }
 {
     if let Err(error) = set_chain_len(target, to, chain_len(from), SectorInit::Zero) {
         return Err(error);

@@ -1,19 +1,19 @@
 //! Files that are copied whole.
-ghost use Rattle.cfb_copying.specs.Chains.{IsCopyFault};
+ghost use Rattle.cfb_copying.specs.Chains.{IsCopyError};
 ghost use Rattle.cfb_copying.specs.Copied.{HasRootName, HoldsCopy};
 ghost use Rattle.cfb_copying.specs.Steps.{HasCopy, IsOriginal};
 ghost use Rattle.cfb_directory.specs.Entries.{entries_in};
 ghost use Rattle.cfb_directory.specs.Views.{entries_held};
-ghost use Rattle.cfb_fat.specs.Tables.{has_failed_here, version_of, AllRests, HasCauseBelow};
-ghost use Rattle.cfb_live.specs.Live.{MeansLive};
-ghost use Rattle.cfb_meaning.specs.Means.{IsStrictlyOpenable};
-ghost use Rattle.cfb_medium.specs.Calls.{IsFaultUnless};
+ghost use Rattle.cfb_fat.specs.Tables.{has_failed_here, version_of, OnlyReadsAllocator, IsJustifiedBySectors};
+ghost use Rattle.cfb_tree_edits.specs.Live.{LiveFileMeansTree};
+ghost use Rattle.cfb_spec.specs.Means.{IsStrictlyOpenable};
+ghost use Rattle.cfb_medium.specs.Calls.{IsFaultOrInvalidInputIf};
 ghost use Rattle.cfb_medium.specs.Versions.{stream_len_mask};
 ghost use Rattle.cfb_medium.specs.declared.error.Error.TheVariants.{Failed};
-ghost use Rattle.cfb_mini.specs.Views.{allocator_of, directory_of, mini_fat_ids, MiniRests};
-ghost use Rattle.cfb_owners.specs.LiveFile.{LiveFile};
-ghost use Rattle.cfb_owners.specs.Owners.{first_of, mini_fat_owner, Owners};
-ghost use Rattle.cfb_tree.specs.Names.{Letters};
+ghost use Rattle.cfb_mini.specs.Views.{allocator_of, directory_of, mini_fat_ids, OnlyReadsMini};
+ghost use Rattle.cfb_ownership.specs.LiveFile.{LiveFile};
+ghost use Rattle.cfb_ownership.specs.Owners.{first_of, mini_fat_owner, Owners};
+ghost use Rattle.cfb_tree.specs.Names.{CaseTable};
 ghost use Rattle.cfb_tree.specs.Tree.{Tree};
 ghost use Rattle.std.specs.Prelude.{true, IfErr, IfOk, IsErrOf, ◌≡◌, ◌≤◌};
 
@@ -43,13 +43,13 @@ fn copy_file<F: ReadMedium>(
         → IsOriginal source.old s who ids.now → s.entries ≡ entries_in entries.old
         → mini_fat_at ≡ first_of (who.sectors mini_fat_owner)
         → root_len ≤ stream_len_mask s.version → HasCopy s who ids.now root_len bytes.items) }
-    ensures refused { IfErr result (λ e. (s : LiveFile) (who : Owners)
+    ensures refused_only_if { IfErr result (λ e. (s : LiveFile) (who : Owners)
         → IsOriginal source.old s who ids.now → s.entries ≡ entries_in entries.old
         → mini_fat_at ≡ first_of (who.sectors mini_fat_owner)
-        → root_len ≤ stream_len_mask s.version → IsFaultUnless ⊥ e) }
-    ensures rests { AllRests source.old source.new }
-    ensures cause { IfErr result (HasCauseBelow source.old source.new) }
-    ensures fault { IfErr result IsCopyFault }
+        → root_len ≤ stream_len_mask s.version → IsFaultOrInvalidInputIf ⊥ e) }
+    ensures only_reads { OnlyReadsAllocator source.old source.new }
+    ensures cause { IfErr result (IsJustifiedBySectors source.old source.new) }
+    ensures errors { IfErr result IsCopyError }
 {
     let mut target = match begin_file(alloc, source.version()) {
         Ok(target) => target,
@@ -92,13 +92,14 @@ fn copy_lent<F: ReadMedium>(
         → IsOriginal (allocator_of mini.old) s who ids.now → s.entries ≡ entries_in entries.old
         → mini_fat_at ≡ first_of (who.sectors mini_fat_owner)
         → root_len ≤ stream_len_mask s.version → HasCopy s who ids.now root_len bytes.items) }
-    ensures refused { IfErr result (λ e. (s : LiveFile) (who : Owners)
+    ensures refused_only_if { IfErr result (λ e. (s : LiveFile) (who : Owners)
         → IsOriginal (allocator_of mini.old) s who ids.now → s.entries ≡ entries_in entries.old
         → mini_fat_at ≡ first_of (who.sectors mini_fat_owner)
-        → root_len ≤ stream_len_mask s.version → IsFaultUnless ⊥ e) }
-    ensures rests { MiniRests mini.old mini.new }
-    ensures cause { IfErr result (HasCauseBelow (allocator_of mini.old) (allocator_of mini.new)) }
-    ensures fault { IfErr result IsCopyFault }
+        → root_len ≤ stream_len_mask s.version → IsFaultOrInvalidInputIf ⊥ e) }
+    ensures only_reads { OnlyReadsMini mini.old mini.new }
+    ensures cause { IfErr result
+        (IsJustifiedBySectors (allocator_of mini.old) (allocator_of mini.new)) }
+    ensures errors { IfErr result IsCopyError }
 {
     copy_file(
         alloc,
@@ -124,19 +125,20 @@ fn entries_again(alloc: Global, entries: &[DirEntry]) -> Result<Vec<DirEntry>, A
 /// after an earlier fault, before all else; `InvalidData` and `Full` only where the file means no tree: a copy has no more sectors
 /// than the file, so that numbers don't run out. The other errors are `Memory` and `Device` ([MS-CFB] 2).
 pub fn copy_of<F: ReadMedium>(alloc: Global, mini: &mut MiniAllocator<F>) -> Result<Vec<u8>, Error>
-    ensures copied { IfOk result (λ bytes. (letters : Letters) (tree : Tree)
-        → MeansLive letters mini.old tree
+    ensures copied { IfOk result (λ bytes. (letters : CaseTable) (tree : Tree)
+        → LiveFileMeansTree letters mini.old tree
         → HoldsCopy (version_of (allocator_of mini.old)) letters bytes.items tree) }
-    ensures strict { IfOk result (λ bytes. (letters : Letters) (tree : Tree)
-        → MeansLive letters mini.old tree
+    ensures strict { IfOk result (λ bytes. (letters : CaseTable) (tree : Tree)
+        → LiveFileMeansTree letters mini.old tree
         → HasRootName (entries_held (directory_of mini.old))
         → IsStrictlyOpenable letters bytes.items) }
-    ensures refused { IfErr result (λ e. (letters : Letters) (tree : Tree)
-        → MeansLive letters mini.old tree → IsFaultUnless ⊥ e) }
-    ensures failed { has_failed_here (allocator_of mini.old) ≡ true → IsErrOf result Failed }
-    ensures rests { MiniRests mini.old mini.new }
-    ensures cause { IfErr result (HasCauseBelow (allocator_of mini.old) (allocator_of mini.new)) }
-    ensures fault { IfErr result IsCopyFault }
+    ensures refused_only_if { IfErr result (λ e. (letters : CaseTable) (tree : Tree)
+        → LiveFileMeansTree letters mini.old tree → IsFaultOrInvalidInputIf ⊥ e) }
+    ensures when_failed { has_failed_here (allocator_of mini.old) ≡ true → IsErrOf result Failed }
+    ensures only_reads { OnlyReadsMini mini.old mini.new }
+    ensures cause { IfErr result
+        (IsJustifiedBySectors (allocator_of mini.old) (allocator_of mini.new)) }
+    ensures errors { IfErr result IsCopyError }
 {
     if mini.directory().allocator().is_failed() {
         return Err(Error::Failed);

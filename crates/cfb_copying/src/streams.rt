@@ -1,16 +1,16 @@
 //! Chains of a file that are copied one after the other: mini FAT, mini stream, and the long streams ([MS-CFB] 2.3, 2.4).
 ghost use Rattle.cfb_chains.specs.LinkViews.{ids_of};
-ghost use Rattle.cfb_copying.specs.Making.{with_list, IsMade};
-ghost use Rattle.cfb_copying.specs.Steps.{CanPut, HasCopied, IsBegun, IsNext, IsOriginal, Steps};
+ghost use Rattle.cfb_copying.specs.Making.{with_list, IsFileInProgress};
+ghost use Rattle.cfb_copying.specs.Steps.{CanPut, HasCopied, IsNewFileBegun, IsNext, IsOriginal, CopiesOneStep};
 ghost use Rattle.cfb_directory.specs.Entries.{entries_in};
 ghost use Rattle.cfb_fat.specs.Growing.{IsLean};
 ghost use Rattle.cfb_fat.specs.Tables.{bytes_of, fat_of, has_failed_here, version_of};
-ghost use Rattle.cfb_medium.specs.Calls.{IsFaultUnless};
+ghost use Rattle.cfb_medium.specs.Calls.{IsFaultOrInvalidInputIf};
 ghost use Rattle.cfb_medium.specs.declared.error.Error.TheVariants.{Full};
-ghost use Rattle.cfb_owned.specs.Chains.{RunsOut};
-ghost use Rattle.cfb_live.specs.Doing.{IsFault};
-ghost use Rattle.cfb_owners.specs.LiveFile.{LiveFile};
-ghost use Rattle.cfb_owners.specs.Owners.{first_of, mini_fat_owner, Owners};
+ghost use Rattle.cfb_chain_io.specs.ChainEffects.{AllocatorRunsOut};
+ghost use Rattle.cfb_tree_edits.specs.LiveTreeRules.{IsFaultOrFull};
+ghost use Rattle.cfb_ownership.specs.LiveFile.{LiveFile};
+ghost use Rattle.cfb_ownership.specs.Owners.{first_of, mini_fat_owner, Owners};
 ghost use Rattle.cfb_sectors.specs.Header.{mini_cutoff};
 ghost use Rattle.cfb_sectors.specs.Sectors.{joined, Chain};
 ghost use Rattle.cfb_tree.specs.Directory.{kind_stream};
@@ -45,16 +45,17 @@ fn put_chain<F: ReadMedium, T: Medium>(
     requires { has_failed_here target.old ≡ false }
     ensures put { IfOk result (λ links. (directory mini_fat key : ℕ) (own bytes : ℕ → List ℕ)
         (ids : List ℕ) → CanPut source.old start target.old directory mini_fat key own bytes ids
-        → IsMade directory mini_fat target.new (with_list key (ids_of links) own)
+        → IsFileInProgress directory mini_fat target.new (with_list key (ids_of links) own)
         (with_list key (joined (version_of source.old) (bytes_of source.old) ids) bytes)) }
-    ensures refused { IfErr result (λ e. (directory mini_fat key : ℕ) (own bytes : ℕ → List ℕ)
+    ensures refused_only_if { IfErr result
+        (λ e. (directory mini_fat key : ℕ) (own bytes : ℕ → List ℕ)
         (ids : List ℕ) → CanPut source.old start target.old directory mini_fat key own bytes ids
-        → IsFault e) }
+        → IsFaultOrFull e) }
     ensures stopped { IsErrOf result Full → (ids : List ℕ) → Chain (fat_of source.old) start ids
-        → RunsOut 0 (length ids) target.old }
+        → AllocatorRunsOut 0 (length ids) target.old }
     ensures lean { OnOk result ((ids : List ℕ) → Chain (fat_of source.old) start ids
         → (others : ℕ) → IsLean target.old others → IsLean target.new (others + length ids)) }
-    ensures steps { Steps result source.old source.new target.old target.new }
+    ensures steps { CopiesOneStep result source.old source.new target.old target.new }
 {
     let from = match source.open_chain(start) {
         Ok(links) => links,
@@ -101,10 +102,12 @@ fn copy_stream<F: ReadMedium, T: Medium>(
         → IsOriginal source.old s who ids → IsNext ids done id
         → HasCopied s who done minis (entries_in entries.old) target.old
         → HasCopied s who (done ++ id ∷ []) minis (entries_in entries.new) target.new) }
-    ensures refused { IfErr result (λ e. (s : LiveFile) (who : Owners) (ids done minis : List ℕ)
+    ensures refused_only_if { IfErr result
+        (λ e. (s : LiveFile) (who : Owners) (ids done minis : List ℕ)
         → IsOriginal source.old s who ids → IsNext ids done id
-        → HasCopied s who done minis (entries_in entries.old) target.old → IsFaultUnless ⊥ e) }
-    ensures steps { Steps result source.old source.new target.old target.new }
+        → HasCopied s who done minis (entries_in entries.old) target.old
+        → IsFaultOrInvalidInputIf ⊥ e) }
+    ensures steps { CopiesOneStep result source.old source.new target.old target.new }
 {
     if id as usize >= entries.len() {
         return Err(Error::InvalidData);
@@ -135,10 +138,11 @@ pub(crate) fn copy_streams<F: ReadMedium, T: Medium>(
         → IsOriginal source.old s who ids.now
         → HasCopied s who [] minis (entries_in entries.old) target.old
         → HasCopied s who ids.now minis (entries_in entries.new) target.new) }
-    ensures refused { IfErr result (λ e. (s : LiveFile) (who : Owners) (minis : List ℕ)
+    ensures refused_only_if { IfErr result (λ e. (s : LiveFile) (who : Owners) (minis : List ℕ)
         → IsOriginal source.old s who ids.now
-        → HasCopied s who [] minis (entries_in entries.old) target.old → IsFaultUnless ⊥ e) }
-    ensures steps { Steps result source.old source.new target.old target.new }
+        → HasCopied s who [] minis (entries_in entries.old) target.old
+        → IsFaultOrInvalidInputIf ⊥ e) }
+    ensures steps { CopiesOneStep result source.old source.new target.old target.new }
 {
     'copy: for id in ids {
         if let Err(error) = copy_stream(alloc, source, entries, *id, target) {
@@ -159,13 +163,13 @@ pub(crate) fn copy_minis<F: ReadMedium, T: Medium>(
     requires { has_failed_here target.old ≡ false }
     ensures copied { IfOk result (λ links. (s : LiveFile) (who : Owners) (ids : List ℕ)
         → IsOriginal source.old s who ids → s.entries ≡ entries_in entries.old
-        → mini_fat_at ≡ first_of (who.sectors mini_fat_owner) → IsBegun s.version target.old
+        → mini_fat_at ≡ first_of (who.sectors mini_fat_owner) → IsNewFileBegun s.version target.old
         → HasCopied s who [] (ids_of links) (entries_in entries.new) target.new) }
-    ensures refused { IfErr result (λ e. (s : LiveFile) (who : Owners) (ids : List ℕ)
+    ensures refused_only_if { IfErr result (λ e. (s : LiveFile) (who : Owners) (ids : List ℕ)
         → IsOriginal source.old s who ids → s.entries ≡ entries_in entries.old
-        → mini_fat_at ≡ first_of (who.sectors mini_fat_owner) → IsBegun s.version target.old
-        → IsFaultUnless ⊥ e) }
-    ensures steps { Steps result source.old source.new target.old target.new }
+        → mini_fat_at ≡ first_of (who.sectors mini_fat_owner) → IsNewFileBegun s.version target.old
+        → IsFaultOrInvalidInputIf ⊥ e) }
+    ensures steps { CopiesOneStep result source.old source.new target.old target.new }
 {
     if entries.is_empty() {
         return Err(Error::InvalidData);

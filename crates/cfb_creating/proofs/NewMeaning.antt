@@ -11,15 +11,15 @@ use Rattle.cfb_sectors.specs.Header.{header_difat, IsHeader}
 use Rattle.cfb_sectors.specs.Sectors.{end_of_chain, fat_sector, Chain, IsInFile}
 use Rattle.cfb_tree.specs.Directory.{Entry, none, entries_of}
 use Rattle.cfb_tree.specs.Entries.{empty_root}
-use Rattle.cfb_tree.specs.Names.{Letters}
+use Rattle.cfb_tree.specs.Names.{CaseTable}
 use Rattle.cfb_tree.specs.Tree.{nothing, IsOrdered}
-use Rattle.cfb_meaning.specs.Means.{directory, fat, HasBytes, IsLaidOut, IsOpenable, IsStrict, IsStrictlyOpenable, Layout, Means, MeansBy}
-use Rattle.cfb_meaning.specs.Sound.{in_file, in_mini_stream, IsSound, Part}
+use Rattle.cfb_spec.specs.Means.{directory, fat, HasBytes, IsLaidOut, IsOpenable, IsStrict, IsStrictlyOpenable, Layout, BytesMeanTree, BytesMeanTreeBy}
+use Rattle.cfb_spec.specs.Sound.{in_file, in_mini_stream, IsSoundContainer, Part}
 use Rattle.cfb_creating.specs.NewFile.{empty_tree, new_fat, new_file, new_header}
 use Rattle.cfb_creating.proofs.NewBytes.{directory_joined, fields, length-new_fat, length-new_file, long_enough, numbers_read, table_joined, three_whole, two_in_three}
 use Rattle.cfb_creating.proofs.NewEntries.{directory_read, root_named}
 
-nothing_ordered : (letters : Letters) → IsOrdered letters nothing
+nothing_ordered : (letters : CaseTable) → IsOrdered letters nothing
 unfolding IsStrictlySortedBy
 nothing_ordered letters = (tt, tt)
 
@@ -89,7 +89,7 @@ module _ (v : Version) (behind : List ℕ) where
         mini_stream_in_file = tt;
       }
 
-  means_by : (Reads : Entry → List ℕ → Type 0) (letters : Letters) → MeansBy lay Reads letters bytes empty_tree
+  means_by : (Reads : Entry → List ℕ → Type 0) (letters : CaseTable) → BytesMeanTreeBy lay Reads letters bytes empty_tree
   means_by Reads letters = record {
     laid_out = laid_out;
     facts = refl;
@@ -104,10 +104,10 @@ module _ (v : Version) (behind : List ℕ) where
   unfolding new_header
   is_header = (fields v behind).header
 
-  pub new_means : (letters : Letters) → Means letters bytes empty_tree
+  pub new_means : (letters : CaseTable) → BytesMeanTree letters bytes empty_tree
   new_means letters = (lay, means_by (HasBytes bytes lay) letters)
 
-  pub new_opens : (letters : Letters) → IsOpenable letters bytes
+  pub new_opens : (letters : CaseTable) → IsOpenable letters bytes
   new_opens letters = (lay, empty_tree, means_by (λ e content. ⊤) letters)
 
   whole : behind ≡ [] → length bytes ≡ 3 * sector_len v
@@ -129,10 +129,10 @@ module _ (v : Version) (behind : List ℕ) where
         colors = tt;
       }
 
-  strict_so : (letters : Letters) → behind ≡ [] → IsStrictlyOpenable letters bytes
+  strict_so : (letters : CaseTable) → behind ≡ [] → IsStrictlyOpenable letters bytes
   strict_so letters last = (lay, empty_tree, means_by (λ e content. ⊤) letters, strict_by last)
 
-  sound_so : (letters : Letters) → behind ≡ [] → IsSound letters bytes
+  sound_so : (letters : CaseTable) → behind ≡ [] → IsSoundContainer letters bytes
   sound_so letters last =
       let at = fat_at in (
         lay,
@@ -153,9 +153,9 @@ module _ (v : Version) (behind : List ℕ) where
         },
       )
 
-module _ (v : Version) (letters : Letters) where
-  pub new_sound : IsSound letters (new_file v)
-  new_sound = subst (IsSound letters) (append-nil (new_file v)) (sound_so v [] letters refl)
+module _ (v : Version) (letters : CaseTable) where
+  pub new_sound : IsSoundContainer letters (new_file v)
+  new_sound = subst (IsSoundContainer letters) (append-nil (new_file v)) (sound_so v [] letters refl)
 
   pub new_strict : IsStrictlyOpenable letters (new_file v)
   new_strict = subst (IsStrictlyOpenable letters) (append-nil (new_file v)) (strict_so v [] letters refl)

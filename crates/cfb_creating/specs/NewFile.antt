@@ -10,7 +10,7 @@ use Rattle.cfb_tree.specs.Changes.{made_at}
 use Rattle.cfb_tree.specs.Directory.{entry_bytes}
 use Rattle.cfb_tree.specs.Entries.{empty_root}
 use Rattle.cfb_tree.specs.Tree.{nothing, Tree}
-use Rattle.cfb_meaning.specs.Means.{directory_count}
+use Rattle.cfb_spec.specs.Means.{directory_count}
 
 -- the tree of a new file: a root without children, whose facts are zeros ([MS-CFB] 2.6.2)
 abbrev pub empty_tree : Tree

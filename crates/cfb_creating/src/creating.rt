@@ -1,7 +1,7 @@
 //! The bytes of a new file, and a medium that gets them.
 ghost use Rattle.cfb_creating.specs.NewFile.{new_directory, new_fat, new_file, new_header};
 ghost use Rattle.cfb_medium.specs.Bytes.{overwritten};
-ghost use Rattle.cfb_medium.specs.Calls.{Extends, HasCauseSince, IsFaultUnless};
+ghost use Rattle.cfb_medium.specs.Calls.{Reaches, IsJustifiedSince, IsFaultOrInvalidInputIf};
 ghost use Rattle.cfb_medium.specs.Numbers.{number_bytes};
 ghost use Rattle.cfb_medium.specs.declared.error.Error.TheVariants.{Memory};
 ghost use Rattle.cfb_sectors.specs.Copies.{copies, unused_entry};
@@ -79,7 +79,7 @@ fn push_fat(out: &mut Vec<u8>, version: Version) -> Result<(), AllocError>
 // Appends directory entries in no use.
 fn push_unused(out: &mut Vec<u8>, count: usize) -> Result<(), Error>
     ensures ok { OnOk result (out.new.items ≡ out.old.items ++ copies count unused_entry) }
-    ensures error { IfErr result (λ e. e ≡ Memory) }
+    ensures errors { IfErr result (λ e. e ≡ Memory) }
 {
     for _i in 0..count {
         DirEntry::unallocated().write_to(out)?;
@@ -91,7 +91,7 @@ fn push_unused(out: &mut Vec<u8>, count: usize) -> Result<(), Error>
 #[tactic(auto, unfolding(crate::specs::NewFile::new_directory))]
 fn push_directory(out: &mut Vec<u8>, version: Version) -> Result<(), Error>
     ensures ok { OnOk result (out.new.items ≡ out.old.items ++ new_directory version) }
-    ensures error { IfErr result (λ e. e ≡ Memory) }
+    ensures errors { IfErr result (λ e. e ≡ Memory) }
 {
     DirEntry::empty_root_entry().write_to(out)?;
     push_unused(out, version.dir_entries_per_sector() - 1)
@@ -102,7 +102,7 @@ fn push_directory(out: &mut Vec<u8>, version: Version) -> Result<(), Error>
 #[tactic(auto, unfolding(crate::specs::NewFile::new_file))]
 pub fn new_file(alloc: Global, version: Version) -> Result<Vec<u8>, Error>
     ensures bytes { IfOk result (λ it. it.items ≡ new_file version) }
-    ensures error { IfErr result (λ e. e ≡ Memory) }
+    ensures errors { IfErr result (λ e. e ≡ Memory) }
 {
     let mut bytes = Vec::new(alloc);
     new_header(version).write_to(&mut bytes)?;
@@ -124,10 +124,10 @@ pub fn write_new_file<F: Medium>(
     ensures unwritten { IsTrue (F.honest medium.old) → OnErr result
         (F.bytes medium.new ≡ F.bytes medium.old) }
     ensures honest { F.honest medium.new ≡ F.honest medium.old }
-    ensures continues { Extends F.continues medium.old medium.new }
-    ensures cause { IfErr result (HasCauseSince F.continues F.failures F.failed medium.old
+    ensures continues { Reaches F.continues medium.old medium.new }
+    ensures cause { IfErr result (IsJustifiedSince F.continues F.failures F.failed medium.old
         medium.new) }
-    ensures fault { IfErr result (IsFaultUnless ⊥) }
+    ensures errors { IfErr result (IsFaultOrInvalidInputIf ⊥) }
 {
     let bytes = new_file(alloc, version)?;
     medium.write_at(0, &bytes)

@@ -13,28 +13,28 @@ use Rattle.cfb_sectors.specs.Copies.{copies}
 use Rattle.cfb_sectors.specs.Initial.{initial}
 use Rattle.cfb_sectors.specs.Sectors.{end_of_chain, filled_part, greatest_regular, joined, sector}
 use Rattle.cfb_sectors.specs.declared.initial.SectorInit.TheVariants.{Dir}
-use Rattle.cfb_chains.specs.Changes.{AreNoneOf}
+use Rattle.cfb_chains.specs.Changes.{AreDisjoint}
 use Rattle.cfb_chains.specs.LinkViews.{ids_of}
 use Rattle.cfb_chains.specs.Positions.{sectors_for}
-use Rattle.cfb_chains.specs.Owned.{Becomes, Leaves, Seen}
-use Rattle.cfb_fat.specs.Growing.{LacksNumbers}
+use Rattle.cfb_chains.specs.Owned.{ReplacesChain, ChangesAtMost, SectorLayer}
+use Rattle.cfb_fat.specs.Growing.{LacksSectorNumbers}
 use Rattle.cfb_fat.specs.Seeing.{seen_of}
 use Rattle.cfb_fat.specs.Tables.{bytes_of, tables_of, version_of}
 use Rattle.cfb_fat.specs.declared.allocator.Allocator.{Allocator}
-use Rattle.cfb_owned.specs.Chains.{content_of, GoesOn, HasChain, LacksSectors}
-use Rattle.cfb_owned.proofs.WrittenParts.{becomes_same}
+use Rattle.cfb_chain_io.specs.ChainEffects.{content_of, KeepsFileInvariants, HasDataChain, LacksSectors}
+use Rattle.cfb_chain_io.proofs.WrittenParts.{becomes_same}
 use Rattle.cfb_siblings.specs.Changes.{IsUnused}
 use Rattle.cfb_tree.specs.Directory.{Entry, entries_of, greatest_entry}
 use Rattle.cfb_tree.specs.Entries.{empty_entry}
 use Rattle.cfb_directory.specs.Changes.{HasDirectory, LiesBeside}
 use Rattle.cfb_directory.specs.Entries.{HasNoneUnused}
-use Rattle.cfb_directory.specs.Growth.{count_words, longer, GrowsDirectory, IsCounted, LacksEntries}
-use Rattle.cfb_directory.specs.Views.{allocator_of, directory_ids, entries_held, links_of, IsDirectory}
+use Rattle.cfb_directory.specs.Growth.{count_words, longer, GrowsDirectory, HeaderCountsDirectory, LacksEntries}
+use Rattle.cfb_directory.specs.Views.{allocator_of, directory_ids, entries_held, links_of, DirectoryMatchesBytes}
 use Rattle.cfb_directory.specs.declared.directory.Directory.{Directory}
 use Rattle.cfb_directory.proofs.EntryBytes.{entries_behind, unused_entries}
 use Rattle.cfb_directory.proofs.Setting.{has_directory, is_directory, length-content}
 use Rattle.cfb_chains.proofs.Owners.{chain_left, leaves_then, none_of_nothing}
-use Rattle.cfb_owned.proofs.Owning.{none_behind_all}
+use Rattle.cfb_chain_io.proofs.Owning.{none_behind_all}
 
 -- what was written is there
 back : (b : List ℕ) (p x : ℕ) (xs : List ℕ) → filled_part (overwritten b p (x ∷ xs)) p (length (x ∷ xs)) ≡ x ∷ xs
@@ -54,12 +54,12 @@ word_there b p n = back b p _ _
 
 module _ (S : List ℕ → ℕ → List ℕ) where
   -- a chain that became longer, and a change of the header behind that
-  pub becomes_counted : (ws ids more : List ℕ) (a m b : Seen) → Becomes S [] ids more (ids ++ more) a m → AreNoneOf m.tables (ids ++ more) → Leaves S ws [] m b → Becomes S ws ids more (ids ++ more) a b
+  pub becomes_counted : (ws ids more : List ℕ) (a m b : SectorLayer) → ReplacesChain S [] ids more (ids ++ more) a m → AreDisjoint m.tables (ids ++ more) → ChangesAtMost S ws [] m b → ReplacesChain S ws ids more (ids ++ more) a b
   becomes_counted ws ids more a m b h beside leaves =
       let later = ids ++ more in
       let left = chain_left S ws [] m b leaves (slice_index_or later 0 end_of_chain) later h.linked (none_of_nothing later) beside in
       record {
-        leaves = subst (λ l. Leaves S ws l a b) (append-nil (ids ++ more)) (leaves_then S [] ws (ids ++ more) [] a m b h.leaves leaves);
+        leaves = subst (λ l. ChangesAtMost S ws l a b) (append-nil (ids ++ more)) (leaves_then S [] ws (ids ++ more) [] a m b h.leaves leaves);
         were_free = h.were_free;
         spare = none_behind_all b.tables ids more left.1;
         linked = left.0;
@@ -94,10 +94,10 @@ entries_grown v bytes ids more content es one is held =
 module _ {F : Type 0} {g : Ghosts F} where
   -- a directory whose chain took in a sector, after which the header counts it
   pub directory_grown : (old new : Directory F g) (m : Allocator F g) (more : List ℕ) → HasDirectory old → directory_ids new ≡ directory_ids old ++ more → length more ≡ 1
-      → GoesOn (allocator_of old) m → GoesOn m (allocator_of new) → HasChain m (links_of new)
-      → Becomes (sector (version_of (allocator_of old))) [] (directory_ids old) more (directory_ids new) (seen_of (allocator_of old)) (seen_of m)
+      → KeepsFileInvariants (allocator_of old) m → KeepsFileInvariants m (allocator_of new) → HasDataChain m (links_of new)
+      → ReplacesChain (sector (version_of (allocator_of old))) [] (directory_ids old) more (directory_ids new) (seen_of (allocator_of old)) (seen_of m)
       → content_of m (links_of new) ≡ content_of (allocator_of old) (links_of old) ++ copies (length more) (initial Dir (sector_len (version_of (allocator_of old))))
-      → Leaves (sector (version_of m)) (count_words (version_of m)) [] (seen_of m) (seen_of (allocator_of new)) → IsCounted (version_of m) (bytes_of (allocator_of new)) (length (directory_ids new))
+      → ChangesAtMost (sector (version_of m)) (count_words (version_of m)) [] (seen_of m) (seen_of (allocator_of new)) → HeaderCountsDirectory (version_of m) (bytes_of (allocator_of new)) (length (directory_ids new))
       → entries_held new ≡ longer (version_of (allocator_of old)) (entries_held old) → GrowsDirectory old new
   unfolding seen_of
   directory_grown old new m more has ids one first second chain becomes content leaves counted entries =
@@ -106,24 +106,24 @@ module _ {F : Type 0} {g : Ghosts F} where
       let v = version_of a in
       let later = directory_ids new in
       let same : version_of m ≡ v = first.version in
-      let left = chain_left (sector v) (count_words v) [] (seen_of m) (seen_of b) (subst (λ u. Leaves (sector u) (count_words u) [] (seen_of m) (seen_of b)) same leaves)
+      let left = chain_left (sector v) (count_words v) [] (seen_of m) (seen_of b) (subst (λ u. ChangesAtMost (sector u) (count_words u) [] (seen_of m) (seen_of b)) same leaves)
       (slice_index_or later 0 end_of_chain) later chain.has.linked (none_of_nothing later) chain.beside in
       let now : content_of b (links_of new) ≡ content_of m (links_of new) =
       ap (λ u. joined u (bytes_of b) later) (second.version ∙ same) ∙ left.2 ∙ ap (λ u. joined u (bytes_of m) later) (sym same) in
       record {
         more = more;
         ids = ids;
-        becomes = subst (λ l. Becomes (sector v) (count_words v) (directory_ids old) more l (seen_of a) (seen_of b)) (sym ids)
+        becomes = subst (λ l. ReplacesChain (sector v) (count_words v) (directory_ids old) more l (seen_of a) (seen_of b)) (sym ids)
             (becomes_counted (sector v) (count_words v) (directory_ids old) more (seen_of a) (seen_of m) (seen_of b)
-            (subst (λ l. Becomes (sector v) [] (directory_ids old) more l (seen_of a) (seen_of m)) ids becomes) (subst (AreNoneOf (tables_of m)) ids chain.beside)
-            (subst (λ u. Leaves (sector u) (count_words u) [] (seen_of m) (seen_of b)) same leaves));
+            (subst (λ l. ReplacesChain (sector v) [] (directory_ids old) more l (seen_of a) (seen_of m)) ids becomes) (subst (AreDisjoint (tables_of m)) ids chain.beside)
+            (subst (λ u. ChangesAtMost (sector u) (count_words u) [] (seen_of m) (seen_of b)) same leaves));
         has = record {
           chain = record { has = record { honest = subst IsTrue (sym second.honest) chain.has.honest; version = chain.has.version ∙ sym second.version; linked = left.0 }; beside = left.1 };
           entries = entries
               ∙ sym (entries_grown v (bytes_of a) (directory_ids old) more (content_of m (links_of new)) (entries_held old) one content has.entries)
               ∙ ap (entries_of v) (sym now) ∙ ap (λ u. entries_of u (content_of b (links_of new))) (sym (second.version ∙ same));
         };
-        counted = λ was. subst (λ u. IsCounted u (bytes_of b) (length later)) same counted;
+        counted = λ was. subst (λ u. HeaderCountsDirectory u (bytes_of b) (length later)) same counted;
       }
 
 sectors_of_one_more : (v : Version) (n : ℕ) → sectors_for v ((n + 1) * sector_len v) ≡ n + 1
@@ -163,7 +163,7 @@ first_unused v es all id is at fits = record {
 pub length_longer : (v : Version) (es : List Entry) → length (longer v es) ≡ length es + dir_entries_per_sector v
 length_longer v es = simp (length-append, length-replicate) refl
 
-leaves_words : (S : List ℕ → ℕ → List ℕ) (ws xs : List ℕ) (a b : Seen) → Leaves S [] xs a b → Leaves S ws xs a b
+leaves_words : (S : List ℕ → ℕ → List ℕ) (ws xs : List ℕ) (a b : SectorLayer) → ChangesAtMost S [] xs a b → ChangesAtMost S ws xs a b
 leaves_words S ws xs a b h = record {
   longer = h.longer;
   size = h.size;
@@ -175,7 +175,7 @@ leaves_words S ws xs a b h = record {
   header = λ place count front beside. h.header place count front (beside.0, tt);
 }
 
-pub becomes_words : (S : List ℕ → ℕ → List ℕ) (ws ids more later : List ℕ) (a b : Seen) → Becomes S [] ids more later a b → Becomes S ws ids more later a b
+pub becomes_words : (S : List ℕ → ℕ → List ℕ) (ws ids more later : List ℕ) (a b : SectorLayer) → ReplacesChain S [] ids more later a b → ReplacesChain S ws ids more later a b
 becomes_words S ws ids more later a b h = record {
   leaves = leaves_words S ws (ids ++ more) a b h.leaves;
   were_free = h.were_free;
@@ -194,18 +194,18 @@ module _ {F : Type 0} {g : Ghosts F} where
       let ids = directory_ids old in record {
         more = [];
         ids = ap ids_of links ∙ sym (append-nil ids);
-        becomes = subst (λ l. Becomes (sector v) (count_words v) ids [] l (seen_of a) (seen_of (allocator_of new))) (sym (ap ids_of links))
-            (subst (λ x. Becomes (sector v) (count_words v) ids [] ids (seen_of a) (seen_of x)) (sym same)
+        becomes = subst (λ l. ReplacesChain (sector v) (count_words v) ids [] l (seen_of a) (seen_of (allocator_of new))) (sym (ap ids_of links))
+            (subst (λ x. ReplacesChain (sector v) (count_words v) ids [] ids (seen_of a) (seen_of x)) (sym same)
             (becomes_words (sector v) (count_words v) ids [] ids (seen_of a) (seen_of a) (becomes_same (sector v) ids (seen_of a) has.chain.has.linked)));
         has = record {
-          chain = subst (λ x. HasChain x (links_of new)) (sym same) (subst (HasChain a) (sym links) has.chain);
+          chain = subst (λ x. HasDataChain x (links_of new)) (sym same) (subst (HasDataChain a) (sym links) has.chain);
           entries = entries ∙ has.entries ∙ ap (λ l. entries_of v (content_of a l)) (sym links) ∙ ap (λ x. entries_of (version_of x) (content_of x (links_of new))) (sym same);
         };
-        counted = λ was. subst (λ x. IsCounted v (bytes_of x) (length (directory_ids new))) (sym same) (subst (λ l. IsCounted v (bytes_of a) (length (ids_of l))) (sym links) was);
+        counted = λ was. subst (λ x. HeaderCountsDirectory v (bytes_of x) (length (directory_ids new))) (sym same) (subst (λ l. HeaderCountsDirectory v (bytes_of a) (length (ids_of l))) (sym links) was);
       }
 
   -- memory is that of the bytes then
-  pub grown_kept : (old new : Directory F g) → GoesOn (allocator_of old) (allocator_of new) → (HasDirectory old → GrowsDirectory old new) → IsDirectory old → LiesBeside old → IsDirectory new
+  pub grown_kept : (old new : Directory F g) → KeepsFileInvariants (allocator_of old) (allocator_of new) → (HasDirectory old → GrowsDirectory old new) → DirectoryMatchesBytes old → LiesBeside old → DirectoryMatchesBytes new
   grown_kept old new goes grown held beside =
       is_directory new (λ live honest. (grown (has_directory old (goes.live live) (subst IsTrue goes.honest honest) held beside)).has)
 
@@ -214,7 +214,7 @@ module _ {F : Type 0} {g : Ghosts F} where
   unfolding LacksEntries
   lacks_sector it count is lacks none =
       let one : count - length (directory_ids it) ≡ 1 = omega (arith, is) in
-      (none, ⊎_elim (λ few. inr (inl (subst (LacksNumbers (allocator_of it)) one few))) (λ long. inr (inr (omega (arith, long, is)))) lacks)
+      (none, ⊎_elim (λ few. inr (inl (subst (LacksSectorNumbers (allocator_of it)) one few))) (λ long. inr (inr (omega (arith, long, is)))) lacks)
 
   -- no numbers for the entries of one
   pub lacks_places : (it : Directory F g) → greatest_entry + 1 < length (entries_held it) + dir_entries_per_sector (version_of (allocator_of it)) → HasNoneUnused (entries_held it) → LacksEntries it
@@ -229,6 +229,6 @@ module _ {F : Type 0} {g : Ghosts F} where
     ⊎_elim
         (λ few. inl (subst (λ a. greatest_entry + 1 < length (entries_held old) + dir_entries_per_sector (version_of a)) allocator
         (subst (λ es. greatest_entry + 1 < length es + dir_entries_per_sector (version_of (allocator_of new))) entries few)))
-        (⊎_elim (λ few. inr (inl (subst (λ a. LacksNumbers a 1) allocator few))) (λ long. inr (inr (subst (λ l. greatest_regular < length l) ids long))))
+        (⊎_elim (λ few. inr (inl (subst (λ a. LacksSectorNumbers a 1) allocator few))) (λ long. inr (inr (subst (λ l. greatest_regular < length l) ids long))))
         lacks.1,
   )

@@ -9,9 +9,9 @@ use Rattle.cfb_medium.specs.declared.version.Version.{Version}
 use Rattle.cfb_tree.specs.Changes.{added}
 use Rattle.cfb_tree.specs.Directory.{greatest_entry, no_entry, Entry}
 use Rattle.cfb_tree.specs.Entries.{empty_entry}
-use Rattle.cfb_tree.specs.Names.{Letters}
+use Rattle.cfb_tree.specs.Names.{CaseTable}
 use Rattle.cfb_tree.specs.declared.entry.DirEntry.{DirEntry}
-use Rattle.cfb_tree.specs.Objects.{a_storage, a_stream, name_of, HoldsTree, IsObject, Object}
+use Rattle.cfb_tree.specs.Objects.{a_storage, a_stream, name_of, EntriesHoldTree, IsObject, Object}
 use Rattle.cfb_tree.specs.Paths.{Path}
 use Rattle.cfb_tree.specs.Tree.{Tree}
 use Rattle.cfb_tree.proofs.OneContent.{Some_same}
@@ -26,14 +26,14 @@ use Rattle.cfb_siblings.specs.declared.links.Link.TheVariants.{Child, Left, Righ
 use Rattle.cfb_siblings.proofs.Adding.{grows, new_child, storage_there}
 use Rattle.cfb_siblings.proofs.Frames.{append_keeps, either_same, holds_stays, set_changes_only, set_found}
 use Rattle.cfb_siblings.proofs.Unused.{read_by_place, same_stay}
-use Rattle.cfb_directory.specs.Children.{AddsAt, HasAt, IsAs, LinksNew, RemovesAt, StayBut}
+use Rattle.cfb_directory.specs.Children.{AddsAt, HasAt, IsAs, LinksNew, RemovesAt, SameEntriesExcept}
 use Rattle.cfb_directory.specs.Entries.{entries_in, SizesFit}
 use Rattle.cfb_directory.proofs.Readiness.{sizes_behind, sizes_set}
 use Rattle.cfb_directory.proofs.Longer.{free_more, siblings_more, storage_more}
 use Rattle.cfb_directory.proofs.LongerColors.{tree_colored}
 
 -- a tree stays where entries are appended, of the same entries
-appended_on : (letters : Letters) (Reads : Entry → List ℕ → Type 0) (old more : List Entry) (tree : Tree) → (h : HoldsTree letters Reads old tree) → HoldsOn letters Reads (old ++ more) tree h.ids
+appended_on : (letters : CaseTable) (Reads : Entry → List ℕ → Type 0) (old more : List Entry) (tree : Tree) → (h : EntriesHoldTree letters Reads old tree) → HoldsOn letters Reads (old ++ more) tree h.ids
 appended_on letters Reads old more tree h =
     let keep = λ (k : ℕ) (x : Entry) (found : slice_get old k ≡ Some x). append_keeps old more k x found in record {
       holds = record {
@@ -52,16 +52,16 @@ appended_on letters Reads old more tree h =
     }
 
 -- the tree with the child, in a storage that is there still
-pub record Inserts (letters : Letters) (Reads : Entry → List ℕ → Type 0) (old new : List Entry) (tree : Tree) (ids : List ℕ) (path : Path) (parent : ℕ) (name : List ℕ) (id : ℕ) : Type 0 where
+pub record Inserts (letters : CaseTable) (Reads : Entry → List ℕ → Type 0) (old new : List Entry) (tree : Tree) (ids : List ℕ) (path : Path) (parent : ℕ) (name : List ℕ) (id : ℕ) : Type 0 where
   pub more : HoldsOneMore letters Reads old new tree ids (path_to path name) id
   pub storage : IsStorageAt letters new path parent
   pub child : IsChild letters new parent name id
 
-module _ (reads : ℕ → ℕ → List ℕ → Bool) (letters : Letters) (tree : Tree) (path : Path) (parent : ℕ) (link : Link) (e : Entry) (object : Object) (alone : IsAlone (ReadBy reads) e object) where
+module _ (reads : ℕ → ℕ → List ℕ → Bool) (letters : CaseTable) (tree : Tree) (path : Path) (parent : ℕ) (link : Link) (e : Entry) (object : Object) (alone : IsAlone (ReadBy reads) e object) where
   abbrev HoldsWith : List Entry → List Entry → List ℕ → ℕ → Type 0
   HoldsWith old new ids id = Inserts letters (ReadBy reads) old new (added letters object (path_to path (name_of object)) tree) ids path parent (name_of object) id
 
-  added_to : (old new : List Entry) (id : ℕ) → (h : HoldsTree letters (ReadBy reads) old tree) → IsStorageAt letters old path parent → IsFree letters old parent (name_of object) link → IsUnused old id
+  added_to : (old new : List Entry) (id : ℕ) → (h : EntriesHoldTree letters (ReadBy reads) old tree) → IsStorageAt letters old path parent → IsFree letters old parent (name_of object) link → IsUnused old id
       → new ≡ relinked link id (slice_set old id e) → HoldsWith old new h.ids id
   added_to old new id h s free unused is =
       subst (λ l. HoldsWith old l h.ids id) (sym is) (record {
@@ -71,7 +71,7 @@ module _ (reads : ℕ → ℕ → List ℕ → Bool) (letters : Letters) (tree :
       })
 
   -- where entries came behind those of the tree
-  added_behind : (old more new : List Entry) (id : ℕ) → (h : HoldsTree letters (ReadBy reads) old tree) → IsStorageAt letters old path parent → IsFree letters old parent (name_of object) link
+  added_behind : (old more new : List Entry) (id : ℕ) → (h : EntriesHoldTree letters (ReadBy reads) old tree) → IsStorageAt letters old path parent → IsFree letters old parent (name_of object) link
       → length (old ++ more) ≤ greatest_entry + 1 → IsUnused (old ++ more) id → new ≡ relinked link id (slice_set (old ++ more) id e) → HoldsWith old new h.ids id
   added_behind old more new id h s free few unused is =
       let keep = λ (k : ℕ) (x : Entry) (found : slice_get old k ≡ Some x). append_keeps old more k x found in
@@ -89,7 +89,7 @@ module _ (reads : ℕ → ℕ → List ℕ → Bool) (letters : Letters) (tree :
         child = with_it.child;
       }
 
-  pub inserted_holds_tree : (version : Version) (old new : List Entry) (id : ℕ) → LinksNew version link e old new id → (h : HoldsTree letters (ReadBy reads) old tree) → IsStorageAt letters old path parent
+  pub inserted_holds_tree : (version : Version) (old new : List Entry) (id : ℕ) → LinksNew version link e old new id → (h : EntriesHoldTree letters (ReadBy reads) old tree) → IsStorageAt letters old path parent
       → IsFree letters old parent (name_of object) link → HoldsWith old new h.ids id
   inserted_holds_tree version old new id links h s free =
       let more = replicate (dir_entries_per_sector version) empty_entry in
@@ -177,7 +177,7 @@ joined_at : (joined : Option NewLink) (es : List Entry) (k : ℕ) (e : Entry) �
 joined_at None es k e found = (e, found, as_itself e)
 joined_at (Some it) es k e found = relinked_at it.link it.target k es e found
 
-pub taken_others : (removal : Removal) (old new : List Entry) (id : ℕ) (x : Entry) → new ≡ slice_set (taken_out removal old) id x → StayBut old new id
+pub taken_others : (removal : Removal) (old new : List Entry) (id : ℕ) (x : Entry) → new ≡ slice_set (taken_out removal old) id x → SameEntriesExcept old new id
 taken_others removal old new id x is k e other found =
     let joined = joined_by removal.joined old in
     let both = at_then joined (taken_out removal old) k e (joined_at removal.joined old k e found) (λ f at. relinked_at removal.replaced.link removal.replaced.target k joined f at) in

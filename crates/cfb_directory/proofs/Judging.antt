@@ -14,7 +14,7 @@ use Rattle.cfb_medium.proofs.Pieces.{pieces_more, range_is}
 use Rattle.cfb_tree.specs.Directory.{entry_of}
 use Rattle.cfb_tree.specs.EntryViews.{entry_in}
 use Rattle.cfb_tree.specs.declared.entry.DirEntry.{DirEntry}
-use Rattle.cfb_tree.specs.Names.{Letters, name_cmp}
+use Rattle.cfb_tree.specs.Names.{CaseTable, name_cmp}
 use Rattle.cfb_tree.specs.Directory.{Entry, HasName}
 use Rattle.cfb_tree.proofs.OneContent.{name_unique, Some_same}
 use Rattle.cfb_directory.specs.Entries.{entries_in}
@@ -29,7 +29,7 @@ is_less Equal b e = (λ is. let never : false ≡ true = sym e ∙ is in absurd 
 is_less Greater b e = (λ is. let never : false ≡ true = sym e ∙ is in absurd (cc), λ is. absurd (cc))
 
 -- two names that were read, compared
-pub precedes_is : (letters : Letters) (directory : List Entry) (one other : ℕ) (first second : Entry) (first_name second_name : List ℕ) (o : Ordering) (b : Bool)
+pub precedes_is : (letters : CaseTable) (directory : List Entry) (one other : ℕ) (first second : Entry) (first_name second_name : List ℕ) (o : Ordering) (b : Bool)
     → slice_get directory one ≡ Some first → slice_get directory other ≡ Some second → HasName first first_name → HasName second second_name
     → o ≡ name_cmp letters first_name second_name → b ≡ (ordering_index o == 0)
     → (IsTrue b → Precedes letters directory one other) × (Precedes letters directory one other → IsTrue b)

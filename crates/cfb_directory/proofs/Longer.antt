@@ -4,20 +4,20 @@ use Rattle.std.specs.Prelude.{slice_get, Some}
 use Rattle.std.specs.List.{AllByRecursion}
 use Rattle.std.specs.declared.cmp.Ordering.{Ordering}
 use Rattle.cfb_tree.specs.Directory.{Entry, Siblings, none, some}
-use Rattle.cfb_tree.specs.Names.{Letters}
+use Rattle.cfb_tree.specs.Names.{CaseTable}
 use Rattle.cfb_tree.specs.Paths.{Path}
-use Rattle.cfb_siblings.specs.Places.{Hangs, IsChild, IsFree, IsNamed, IsOwner, IsStorageAt, LeadsTo, first, to_left, to_right}
+use Rattle.cfb_siblings.specs.Places.{Hangs, IsChild, IsFree, IsEntryNamed, IsOwner, IsStorageAt, LeadsTo, first, to_left, to_right}
 use Rattle.cfb_siblings.specs.declared.links.Link.{Link}
 
-module _ (letters : Letters) (old new : List Entry) (keep : (id : ℕ) (e : Entry) → slice_get old id ≡ Some e → slice_get new id ≡ Some e) where
+module _ (letters : CaseTable) (old new : List Entry) (keep : (id : ℕ) (e : Entry) → slice_get old id ≡ Some e → slice_get new id ≡ Some e) where
   pub siblings_more : (id : ℕ) (ids : List ℕ) → Siblings old id ids → Siblings new id ids
   siblings_more id ids (none at is) = none at is
   siblings_more id ids (some e before after fits found left right is) = some e before after fits (keep id e found) (siblings_more e.left before left) (siblings_more e.right after right) is
 
-  named_more : (wanted : List ℕ) (order : Ordering) (id : ℕ) → IsNamed letters old wanted order id → IsNamed letters new wanted order id
+  named_more : (wanted : List ℕ) (order : Ordering) (id : ℕ) → IsEntryNamed letters old wanted order id → IsEntryNamed letters new wanted order id
   named_more wanted order id h = record { entry = h.entry; found = keep id h.entry h.found; name = h.name; named = h.named; compared = h.compared }
 
-  all_named_more : (wanted : List ℕ) (order : Ordering) (ids : List ℕ) → AllByRecursion (IsNamed letters old wanted order) ids → AllByRecursion (IsNamed letters new wanted order) ids
+  all_named_more : (wanted : List ℕ) (order : Ordering) (ids : List ℕ) → AllByRecursion (IsEntryNamed letters old wanted order) ids → AllByRecursion (IsEntryNamed letters new wanted order) ids
   all_named_more wanted order [] all = tt
   all_named_more wanted order (id ∷ ids) all = (named_more wanted order id all.0, all_named_more wanted order ids all.1)
 

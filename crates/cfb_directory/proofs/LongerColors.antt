@@ -4,8 +4,8 @@ use Rattle.std.specs.Prelude.{slice_get, Option, Some, None, IfSome}
 use Rattle.std.specs.List.{AllByRecursion}
 use Rattle.cfb_tree.specs.Directory.{black, no_entry, red, Entry, Holds, Siblings, none, some}
 use Rattle.cfb_tree.specs.Entries.{IsBlackAt, IsColored}
-use Rattle.cfb_tree.specs.Names.{Letters}
-use Rattle.cfb_tree.specs.Objects.{HoldsTree}
+use Rattle.cfb_tree.specs.Names.{CaseTable}
+use Rattle.cfb_tree.specs.Objects.{EntriesHoldTree}
 use Rattle.cfb_tree.specs.Tree.{nothing, storage, stream, Content, Tree}
 use Rattle.cfb_tree.proofs.NamesRead.{all_append}
 use Rattle.cfb_siblings.specs.Changes.{AreColored}
@@ -53,7 +53,7 @@ module _ (old new : List Entry) (keep : (id : ℕ) (e : Entry) → slice_get old
       (here.0, all_append (IsColored new) within rest (held_colored Reads i children within inside parts.0 beneath) (held_colored Reads l others rest later parts.1 here.1))
 
   -- of a tree
-  pub tree_colored : (letters : Letters) (Reads : Entry → List ℕ → Type 0) (tree : Tree) (h : HoldsTree letters Reads old tree) → AreColored old h.ids → AreColored new h.ids
+  pub tree_colored : (letters : CaseTable) (Reads : Entry → List ℕ → Type 0) (tree : Tree) (h : EntriesHoldTree letters Reads old tree) → AreColored old h.ids → AreColored new h.ids
   tree_colored letters Reads tree h right = (
     found_black 0 h.root h.root_found right.0,
     held_colored Reads tree.content h.children h.ids h.holds right.1

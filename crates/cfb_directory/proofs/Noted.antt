@@ -14,7 +14,7 @@ use Rattle.cfb_tree.specs.declared.kinds.ObjType.{ObjType}
 use Rattle.cfb_tree.specs.declared.kinds.ObjType.TheVariants.{Unallocated}
 use Rattle.cfb_tree.proofs.OneContent.{Some_same}
 use Rattle.cfb_directory.specs.Changes.{changed_entry}
-use Rattle.cfb_directory.specs.Entries.{AreNoted, HasNoneUnused, IsNoted, IsOneOf}
+use Rattle.cfb_directory.specs.Entries.{ListsUnusedEntries, HasNoneUnused, IsNoted, IsOneOf}
 use Rattle.cfb_directory.specs.declared.changes.EntryChange.{EntryChange}
 use Rattle.cfb_directory.specs.declared.changes.EntryChange.TheVariants.{ClassId, Created, Modified, Place, StateBits}
 
@@ -45,14 +45,14 @@ one_of_front [] n id other has = sym (ap (λ b. b || false) other) ∙ has
 one_of_front (x ∷ ns) n id other has = or_more (nat_eq id x) (list_any (nat_eq id) (ns ++ n ∷ [])) (list_any (nat_eq id) ns) (one_of_front ns n id other) has
 
 -- the last number is dropped where its entry is in use
-pub noted_front : (ns all : List ℕ) (n : ℕ) (es : List Entry) → all ≡ ns ++ n ∷ [] → (IsUnused es n → ⊥) → AreNoted all es → AreNoted ns es
+pub noted_front : (ns all : List ℕ) (n : ℕ) (es : List Entry) → all ≡ ns ++ n ∷ [] → (IsUnused es n → ⊥) → ListsUnusedEntries all es → ListsUnusedEntries ns es
 noted_front ns all n es is used noted id unused =
     ⊎_elim
     (λ same. absurd (used (subst (IsUnused es) same.1 unused)))
     (λ differ. one_of_front ns n id differ.0 (subst (λ l. IsOneOf l id) is (noted id unused)))
     (eqb_tells id n)
 
-pub none_noted : (ns : List ℕ) (es : List Entry) → ns ≡ [] → AreNoted ns es → HasNoneUnused es
+pub none_noted : (ns : List ℕ) (es : List Entry) → ns ≡ [] → ListsUnusedEntries ns es → HasNoneUnused es
 none_noted ns es none noted id unused = let has : IsOneOf [] id = subst (λ l. IsOneOf l id) none (noted id unused) in absurd (cc)
 
 set_here : (es : List Entry) (id : ℕ) (e : Entry) → id < length es → slice_get (set es id e) id ≡ Some e
@@ -68,7 +68,7 @@ set_elsewhere (x ∷ es) (suc id) zero e other = refl
 set_elsewhere (x ∷ es) (suc id) (suc k) e other = set_elsewhere es id k e (λ same. other (ap suc same))
 
 -- an entry is put in the place of another
-pub noted_set : (ns : List ℕ) (es : List Entry) (id : ℕ) (e : Entry) → id < length es → IsNoted ns id e → AreNoted ns es → AreNoted ns (set es id e)
+pub noted_set : (ns : List ℕ) (es : List Entry) (id : ℕ) (e : Entry) → id < length es → IsNoted ns id e → ListsUnusedEntries ns es → ListsUnusedEntries ns (set es id e)
 noted_set ns es id e below here noted k unused =
     ⊎_elim
     (λ same.
@@ -78,7 +78,7 @@ noted_set ns es id e below here noted k unused =
     (eqb_tells id k)
 
 -- an entry of the same kind is noted as the one that stands there
-pub noted_same : (ns : List ℕ) (es : List Entry) (id : ℕ) (x e : Entry) → slice_get es id ≡ Some x → e.kind ≡ x.kind → AreNoted ns es → IsNoted ns id e
+pub noted_same : (ns : List ℕ) (es : List Entry) (id : ℕ) (x e : Entry) → slice_get es id ≡ Some x → e.kind ≡ x.kind → ListsUnusedEntries ns es → IsNoted ns id e
 noted_same ns es id x e found kind noted fits is = noted id (record { fits = fits; entry = x; found = found; of_kind = sym kind ∙ is })
 
 pub changed_kind : (change : EntryChange) (e : Entry) → (changed_entry change e).kind ≡ e.kind
@@ -96,8 +96,8 @@ last_of : (ns : List ℕ) (n : ℕ) → slice_get (ns ++ n ∷ []) (length (ns +
 last_of ns n = ap (slice_get (ns ++ n ∷ [])) (let both = length-append ns (n ∷ []) in omega (arith, both)) ∙ at_end ns n
 
 -- so it is of the last number, which was popped
-pub noted_pop : (ns all : List ℕ) (popped : Option ℕ) (id : ℕ) (es : List Entry) → all ≡ ns ++ option_to_list popped → Some id ≡ slice_get all (length all - 1) → (IsUnused es id → ⊥) → AreNoted all es → AreNoted ns es
-noted_pop ns all None id es is at used noted = subst (λ l. AreNoted l es) (is ∙ append-nil ns) noted
+pub noted_pop : (ns all : List ℕ) (popped : Option ℕ) (id : ℕ) (es : List Entry) → all ≡ ns ++ option_to_list popped → Some id ≡ slice_get all (length all - 1) → (IsUnused es id → ⊥) → ListsUnusedEntries all es → ListsUnusedEntries ns es
+noted_pop ns all None id es is at used noted = subst (λ l. ListsUnusedEntries l es) (is ∙ append-nil ns) noted
 noted_pop ns all (Some n) id es is at used noted =
     let same : n ≡ id = Some_same (sym (last_of ns n) ∙ ap (λ l. slice_get l (length l - 1)) (sym is) ∙ sym at) in
     noted_front ns all n es is (subst (λ m. IsUnused es m → ⊥) (sym same) used) noted

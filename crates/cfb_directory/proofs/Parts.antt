@@ -6,7 +6,7 @@ use Rattle.std.specs.List.Sorted.{IsStrictlySortedBy}
 use Rattle.std.specs.declared.cmp.Ordering.TheVariants.{Less}
 use Rattle.cfb_sectors.specs.declared.validation.Validation.{Validation}
 use Rattle.cfb_sectors.specs.declared.validation.Validation.TheVariants.{Permissive, Strict}
-use Rattle.cfb_tree.specs.Names.{Letters, name_cmp}
+use Rattle.cfb_tree.specs.Names.{CaseTable, name_cmp}
 use Rattle.cfb_tree.specs.Tree.{Content, nothing, stream, storage, child_names, IsOrderedInside}
 use Rattle.cfb_tree.specs.Directory.{Entry, HasName, Siblings, none, some, Holds, no_entry, kind_storage, kind_stream}
 use Rattle.cfb_tree.specs.Objects.{Object, a_stream, a_storage, before, name_of, joined_contents, IsObject}
@@ -20,7 +20,7 @@ use Rattle.cfb_directory.proofs.Joining.{halves, headed, join, head}
 use Rattle.cfb_siblings.proofs.Joining.{names_before, names_joined}
 use Rattle.cfb_siblings.proofs.Lists.{all_map, all_parts}
 
-module _ (letters : Letters) (directory : List Entry) where
+module _ (letters : CaseTable) (directory : List Entry) where
   -- the name comes behind that of the entry, where there is one
   abbrev pub IsOver : Option ℕ → List ℕ → Type 0
   IsOver None name = ⊤
@@ -80,17 +80,17 @@ module _ (letters : Letters) (directory : List Entry) where
   under_less None name fewer less h = tt
   under_less (Some high) name fewer less (e, other, found, named, under) = (e, other, found, named, (name_cmp_total letters).trans fewer name other less under)
 
-pub inside_parts : (letters : Letters) (a b : Content) → IsOrderedInside letters (joined_contents a b) → IsOrderedInside letters a × IsOrderedInside letters b
+pub inside_parts : (letters : CaseTable) (a b : Content) → IsOrderedInside letters (joined_contents a b) → IsOrderedInside letters a × IsOrderedInside letters b
 inside_parts letters nothing b h = (tt, h)
 inside_parts letters (stream n s x l) b h = inside_parts letters l b h
 inside_parts letters (storage n f i l) b h = let rest = inside_parts letters l b h.2 in ((h.0, h.1, rest.0), rest.1)
 
-inside_both : (letters : Letters) (a b : Content) → IsOrderedInside letters a → IsOrderedInside letters b → IsOrderedInside letters (joined_contents a b)
+inside_both : (letters : CaseTable) (a b : Content) → IsOrderedInside letters a → IsOrderedInside letters b → IsOrderedInside letters (joined_contents a b)
 inside_both letters nothing b h k = k
 inside_both letters (stream n s x l) b h k = inside_both letters l b h k
 inside_both letters (storage n f i l) b h k = (h.0, h.1, inside_both letters l b h.2 k)
 
-module _ (validation : Validation) (letters : Letters) (directory : List Entry) (Reads : Entry → List ℕ → Type 0) where
+module _ (validation : Validation) (letters : CaseTable) (directory : List Entry) (Reads : Entry → List ℕ → Type 0) where
   -- all that hangs at a link is a part of a tree, between two siblings
   pub record Part (at : ℕ) (low high : Option ℕ) (all : List ℕ) : Type 0 where
     pub ids : List ℕ

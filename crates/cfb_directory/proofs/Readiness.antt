@@ -6,7 +6,7 @@ use Rattle.cfb_medium.specs.Versions.{dir_entries_per_sector, stream_len_mask}
 use Rattle.cfb_medium.specs.declared.medium.ReadMedium.{Ghosts}
 use Rattle.cfb_medium.specs.declared.version.Version.{Version}
 use Rattle.cfb_fat.specs.Tables.{has_failed_here, version_of}
-use Rattle.cfb_owned.specs.Chains.{GoesOn}
+use Rattle.cfb_chain_io.specs.ChainEffects.{KeepsFileInvariants}
 use Rattle.cfb_tree.specs.Directory.{Entry}
 use Rattle.cfb_tree.specs.Entries.{empty_entry}
 use Rattle.cfb_tree.proofs.OneContent.{Some_same}
@@ -14,7 +14,7 @@ use Rattle.cfb_siblings.specs.Places.{HasEntry}
 use Rattle.cfb_siblings.proofs.Frames.{append_keeps, set_changes_only, set_found}
 use Rattle.cfb_directory.specs.Changes.{SetsEntry}
 use Rattle.cfb_directory.specs.Entries.{SizesFit}
-use Rattle.cfb_directory.specs.Growth.{GrowsDirectory, IsReady, MayGrow}
+use Rattle.cfb_directory.specs.Growth.{GrowsDirectory, CanGrowDirectory, MayGrow}
 use Rattle.cfb_directory.specs.Views.{allocator_of, entries_held}
 use Rattle.cfb_directory.specs.declared.directory.Directory.{Directory}
 use Rattle.cfb_directory.proofs.EntrySizes.{sizes_same}
@@ -59,8 +59,8 @@ sizes_behind v w old new grown fits =
     grown
 
 module _ {F : Type 0} {g : Ghosts F} where
-  pub ready_next : (old mid new : Directory F g) (id : ℕ) (f : Entry) → IsReady old → GoesOn (allocator_of old) (allocator_of mid) → GoesOn (allocator_of mid) (allocator_of new) → has_failed_here (allocator_of mid) ≡ false → has_failed_here (allocator_of new) ≡ false
-      → GrowsDirectory old mid → MayGrow (version_of (allocator_of old)) (entries_held old) (entries_held mid) → SetsEntry id f mid new → f.size ≡ 0 → IsReady new
+  pub ready_next : (old mid new : Directory F g) (id : ℕ) (f : Entry) → CanGrowDirectory old → KeepsFileInvariants (allocator_of old) (allocator_of mid) → KeepsFileInvariants (allocator_of mid) (allocator_of new) → has_failed_here (allocator_of mid) ≡ false → has_failed_here (allocator_of new) ≡ false
+      → GrowsDirectory old mid → MayGrow (version_of (allocator_of old)) (entries_held old) (entries_held mid) → SetsEntry id f mid new → f.size ≡ 0 → CanGrowDirectory new
   ready_next old mid new id f ready first then live alive grown more sets small =
       let v = version_of (allocator_of old) in record {
         has = sets.has grown.has;

@@ -2,18 +2,18 @@
 use Rattle.std.proofs.Common.{◌≡◌, ◌↔◌, ℕ, true, false, inl, inr, ◌⊎◌, ⊎_elim, IsTrue, List, [], ◌∷◌, refl, sym, ◌∙◌, subst}
 use Rattle.std.specs.Prelude.{Err, Ok, OnErr, OnOk, Result, nat_eq, slice_set, Bool}
 use Rattle.cfb_chains.specs.ChainCalls.{IsInvalid}
-use Rattle.cfb_chains.specs.Owned.{Becomes}
-use Rattle.cfb_fat.specs.Calls.{FatAnswers}
+use Rattle.cfb_chains.specs.Owned.{ReplacesChain}
+use Rattle.cfb_fat.specs.Calls.{FatErrorContract}
 use Rattle.cfb_fat.specs.Seeing.{seen_of}
 use Rattle.cfb_fat.specs.declared.allocator.Allocator.{Allocator}
 use Rattle.cfb_fat.specs.Tables.{has_failed_here, version_of}
-use Rattle.cfb_medium.specs.Calls.{IsFaultUnless}
+use Rattle.cfb_medium.specs.Calls.{IsFaultOrInvalidInputIf}
 use Rattle.cfb_medium.specs.declared.error.Error.{Error}
 use Rattle.cfb_medium.specs.declared.error.Error.TheVariants.{AlreadyExists, InvalidData, InvalidInput}
 use Rattle.cfb_medium.specs.declared.medium.ReadMedium.{Ghosts}
-use Rattle.cfb_owned.specs.Chains.{GoesOn}
-use Rattle.cfb_owned.proofs.GoingOn.{goes_cause}
-use Rattle.cfb_owned.proofs.WrittenParts.{becomes_same}
+use Rattle.cfb_chain_io.specs.ChainEffects.{KeepsFileInvariants}
+use Rattle.cfb_chain_io.proofs.GoingOn.{goes_cause}
+use Rattle.cfb_chain_io.proofs.WrittenParts.{becomes_same}
 use Rattle.cfb_sectors.specs.Sectors.{sector}
 use Rattle.cfb_siblings.specs.Changes.{AreColored, HoldsOneLess, HoldsOneMore, IsAlone, IsApart, TakesOut}
 use Rattle.cfb_siblings.specs.Links.{holder, linked_to, relinked, taken_out}
@@ -31,16 +31,16 @@ use Rattle.cfb_siblings.proofs.Unused.{read_by_place}
 use Rattle.cfb_tree.specs.Changes.{added, removed}
 use Rattle.cfb_tree.specs.Directory.{Entry}
 use Rattle.cfb_tree.specs.Entries.{empty_entry}
-use Rattle.cfb_tree.specs.Names.{Letters}
+use Rattle.cfb_tree.specs.Names.{CaseTable}
 use Rattle.cfb_tree.specs.Objects.{name_of, Object}
 use Rattle.cfb_tree.specs.Paths.{Path}
 use Rattle.cfb_tree.specs.Tree.{Tree}
 use Rattle.cfb_directory.specs.Changes.{HasDirectory, LiesBeside, SetsEntry}
 use Rattle.cfb_directory.specs.Children.{AddsAt, AddsChild, HoldsChild, HoldsStorage, RemovesAt, RemovesChild}
 use Rattle.cfb_directory.specs.Entries.{SizesFit}
-use Rattle.cfb_directory.specs.Growth.{GrowsDirectory, IsReady}
-use Rattle.cfb_directory.specs.Turning.{AreAs, HasTurning, HoldChild, HoldOn, SetsLinks, WritesEntries}
-use Rattle.cfb_directory.specs.Views.{allocator_of, directory_ids, entries_held, numbers_noted, IsDirectory}
+use Rattle.cfb_directory.specs.Growth.{GrowsDirectory, CanGrowDirectory}
+use Rattle.cfb_directory.specs.Turning.{AreAs, HasTurning, HoldChild, HoldOn, SetsLinks, WritesDirEntries}
+use Rattle.cfb_directory.specs.Views.{allocator_of, directory_ids, entries_held, numbers_noted, DirectoryMatchesBytes}
 use Rattle.cfb_directory.specs.declared.directory.Directory.{Directory}
 use Rattle.cfb_directory.proofs.Growing.{grown_kept}
 use Rattle.cfb_directory.proofs.Setting.{failed_is}
@@ -86,7 +86,7 @@ removes_still old mid new id alike removes = record {
   sizes = λ v fits. removes.sizes v (alike.sizes v fits);
 }
 
-module _ (letters : Letters) (Reads : Entry → List ℕ → Type 0) (tree : Tree) (path : Path) (parent : ℕ) where
+module _ (letters : CaseTable) (Reads : Entry → List ℕ → Type 0) (tree : Tree) (path : Path) (parent : ℕ) where
   still_then : (old mid new : List Entry) (ids : List ℕ) → (first : HoldsStill letters Reads old mid tree ids path parent)
       → HoldsStill letters Reads mid new tree first.holds.holds.ids path parent → HoldsStill letters Reads old new tree ids path parent
   still_then old mid new ids first second = record {
@@ -99,7 +99,7 @@ module _ (letters : Letters) (Reads : Entry → List ℕ → Type 0) (tree : Tre
   }
 
 -- the same tree, in turn
-pub hold_same : (letters : Letters) (es : List Entry) (parent : ℕ) → HoldOn letters es es parent
+pub hold_same : (letters : CaseTable) (es : List Entry) (parent : ℕ) → HoldOn letters es es parent
 hold_same letters es parent reads tree path h = record {
   holds = record { holds = h.holds; ids_are = refl };
   storage = h.storage;
@@ -109,17 +109,17 @@ hold_same letters es parent reads tree path h = record {
   colors = λ right. right;
 }
 
-pub hold_then : (letters : Letters) (old mid new : List Entry) (parent : ℕ) → HoldOn letters old mid parent → HoldOn letters mid new parent → HoldOn letters old new parent
+pub hold_then : (letters : CaseTable) (old mid new : List Entry) (parent : ℕ) → HoldOn letters old mid parent → HoldOn letters mid new parent → HoldOn letters old new parent
 hold_then letters old mid new parent first second reads tree path h =
     let one = first reads tree path h in
     still_then letters (ReadBy reads) tree path parent old mid new h.holds.ids one (second reads tree path (record { holds = one.holds.holds; storage = one.storage }))
 
-pub hold_turned : (letters : Letters) (es : List Entry) (parent : ℕ) (it : Rotation) → TurnsIn letters es parent it → HoldOn letters es (rotated it es) parent
+pub hold_turned : (letters : CaseTable) (es : List Entry) (parent : ℕ) (it : Rotation) → TurnsIn letters es parent it → HoldOn letters es (rotated it es) parent
 hold_turned letters es parent it planned reads tree path h =
     (turns letters (ReadBy reads) (read_by_place reads) es tree path parent h.holds h.storage it.raised.link planned.upper
     (planned.leads reads tree path h.holds h.storage) it planned.rotation).still
 
-pub turned_there : (letters : Letters) (es : List Entry) (parent : ℕ) (it : Rotation) → TurnsIn letters es parent it → HasTurning es it
+pub turned_there : (letters : CaseTable) (es : List Entry) (parent : ℕ) (it : Rotation) → TurnsIn letters es parent it → HasTurning es it
 turned_there letters es parent it planned = by_rotation it.raised.link planned.upper planned.rotation planned.there
   where
     by_rotation : (link : Link) (upper : ℕ) → IsRotation es link upper it → HasEntry es (holder it.raised.link) → HasTurning es it
@@ -132,7 +132,7 @@ turned_there letters es parent it planned = by_rotation it.raised.link planned.u
 pub child_same : (es : List Entry) (link : Link) (id : ℕ) → HoldChild es es link link id
 child_same es link id letters reads tree path parent name h = (hold_same letters es parent reads tree path h.within, h.taken)
 
-pub child_within : (letters : Letters) (reads : ℕ → ℕ → List ℕ → Bool) (old new : List Entry) (tree : Tree) (ids : List ℕ) (path : Path) (parent : ℕ) (name : List ℕ) (now : Link) (id : ℕ)
+pub child_within : (letters : CaseTable) (reads : ℕ → ℕ → List ℕ → Bool) (old new : List Entry) (tree : Tree) (ids : List ℕ) (path : Path) (parent : ℕ) (name : List ℕ) (now : Link) (id : ℕ)
     → (still : HoldsStill letters (ReadBy reads) old new tree ids path parent) → NameIsTaken letters new parent name now id
     → HoldsChild letters reads new tree path parent name now id
 child_within letters reads old new tree ids path parent name now id still taken =
@@ -156,7 +156,7 @@ child_turned es link id it planned letters reads tree path parent name h =
       record { owner = at.owner; front = at.front; back = at.back; hangs = at.hangs; fits = at.fits; named = (turned.still.children name id child).named },
     )
 
-pub child_there : (es : List Entry) (link : Link) (id : ℕ) (it : Rotation) → IsRotation es link id it → (letters : Letters) (reads : ℕ → ℕ → List ℕ → Bool) (tree : Tree) (path : Path)
+pub child_there : (es : List Entry) (link : Link) (id : ℕ) (it : Rotation) → IsRotation es link id it → (letters : CaseTable) (reads : ℕ → ℕ → List ℕ → Bool) (tree : Tree) (path : Path)
     (parent : ℕ) (name : List ℕ) → HoldsChild letters reads es tree path parent name link id → HasTurning es it
 child_there es link id it planned letters reads tree path parent name h =
     let t = h.taken in
@@ -165,7 +165,7 @@ child_there es link id it planned letters reads tree path parent name h =
     record { inner = turned.inner; lowered = turned.lowered; raised = turned.raised }
 
 -- a new child, and then siblings that are turned
-pub more_still : (letters : Letters) (Reads : Entry → List ℕ → Type 0) (old mid new : List Entry) (tree : Tree) (ids : List ℕ) (path : Path) (parent : ℕ) (name : List ℕ) (id : ℕ)
+pub more_still : (letters : CaseTable) (Reads : Entry → List ℕ → Type 0) (old mid new : List Entry) (tree : Tree) (ids : List ℕ) (path : Path) (parent : ℕ) (name : List ℕ) (id : ℕ)
     → (more : HoldsOneMore letters Reads old mid tree ids (path_to path name) id) → IsChild letters mid parent name id
     → HoldsStill letters Reads mid new tree more.holds.ids path parent → HoldsOneMore letters Reads old new tree ids (path_to path name) id
 more_still letters Reads old mid new tree ids path parent name id more child still = record {
@@ -175,7 +175,7 @@ more_still letters Reads old mid new tree ids path parent name id more child sti
   colors = λ right. subst (AreColored new) (sym still.holds.ids_are) (still.colors (more.colors right));
 }
 
-pub adds_child : (letters : Letters) (old mid new : List Entry) (parent : ℕ) (e : Entry) (name : List ℕ) (id : ℕ)
+pub adds_child : (letters : CaseTable) (old mid new : List Entry) (parent : ℕ) (e : Entry) (name : List ℕ) (id : ℕ)
     → ((reads : ℕ → ℕ → List ℕ → Bool) (tree : Tree) (path : Path) (object : Object) → (h : HoldsStorage letters reads old tree path parent) → IsAlone (ReadBy reads) e object → name_of object ≡ name
     → Inserts letters (ReadBy reads) old mid (added letters object (path_to path name) tree) h.holds.ids path parent name id)
     → HoldOn letters mid new parent → AddsChild letters old new parent name e id
@@ -186,7 +186,7 @@ adds_child letters old mid new parent e name id inserts still reads tree path ob
     (still reads after path (record { holds = it.more.holds; storage = it.storage }))
 
 -- siblings that are turned, and then a child less
-less_still : (letters : Letters) (Reads : Entry → List ℕ → Type 0) (old mid new : List Entry) (tree after : Tree) (ids : List ℕ) (path : Path) (parent : ℕ) (name : List ℕ) (id : ℕ)
+less_still : (letters : CaseTable) (Reads : Entry → List ℕ → Type 0) (old mid new : List Entry) (tree after : Tree) (ids : List ℕ) (path : Path) (parent : ℕ) (name : List ℕ) (id : ℕ)
     (own : List ℕ) → (still : HoldsStill letters Reads old mid tree ids path parent)
     → HoldsOneLess letters Reads mid new after still.holds.holds.ids (path_to path name) id own → HoldsOneLess letters Reads old new after ids (path_to path name) id own
 less_still letters Reads old mid new tree after ids path parent name id own still less =
@@ -201,7 +201,7 @@ less_still letters Reads old mid new tree after ids path parent name id own stil
     }
 
 pub removes_then : (old mid new : List Entry) (link now : Link) (id : ℕ) (removal : Removal) → HoldChild old mid link now id
-    → ((letters : Letters) (reads : ℕ → ℕ → List ℕ → Bool) (tree : Tree) (path : Path) (parent : ℕ) (name : List ℕ) → (h : HoldsChild letters reads mid tree path parent name now id)
+    → ((letters : CaseTable) (reads : ℕ → ℕ → List ℕ → Bool) (tree : Tree) (path : Path) (parent : ℕ) (name : List ℕ) → (h : HoldsChild letters reads mid tree path parent name now id)
     → TakesOut letters (ReadBy reads) mid tree h.within.holds.ids (path_to path name) id removal)
     → new ≡ slice_set (taken_out removal mid) id empty_entry → RemovesChild old new link id
 unfolding child_within
@@ -222,7 +222,7 @@ removes_then old mid new link now id removal keeps plan is letters reads tree pa
     }
 
 module _ {F : Type 0} {g : Ghosts F} where
-  pub writes_same : (it : Directory F g) → WritesEntries it it
+  pub writes_same : (it : Directory F g) → WritesDirEntries it it
   unfolding seen_of
   writes_same it = record {
     ids = refl;
@@ -230,10 +230,10 @@ module _ {F : Type 0} {g : Ghosts F} where
     has = λ has. has;
   }
 
-  pub writes_one : (old new : Directory F g) (id : ℕ) (e : Entry) → SetsEntry id e old new → WritesEntries old new
+  pub writes_one : (old new : Directory F g) (id : ℕ) (e : Entry) → SetsEntry id e old new → WritesDirEntries old new
   writes_one old new id e set = record { ids = set.ids; becomes = set.becomes; has = set.has }
 
-  pub writes_then : (old mid new : Directory F g) → GoesOn (allocator_of old) (allocator_of mid) → WritesEntries old mid → WritesEntries mid new → WritesEntries old new
+  pub writes_then : (old mid new : Directory F g) → KeepsFileInvariants (allocator_of old) (allocator_of mid) → WritesDirEntries old mid → WritesDirEntries mid new → WritesDirEntries old new
   unfolding seen_of
   writes_then old mid new goes first second =
       let v = version_of (allocator_of old) in
@@ -241,8 +241,8 @@ module _ {F : Type 0} {g : Ghosts F} where
       record {
         ids = second.ids ∙ first.ids;
         becomes = λ has.
-            let then = subst (λ u. Becomes (sector u) [] (directory_ids mid) [] (directory_ids mid) (seen_of (allocator_of mid)) (seen_of (allocator_of new))) goes.version (second.becomes (first.has has)) in
-            let same = subst (λ l. Becomes (sector v) [] l [] l (seen_of (allocator_of mid)) (seen_of (allocator_of new))) first.ids then in
+            let then = subst (λ u. ReplacesChain (sector u) [] (directory_ids mid) [] (directory_ids mid) (seen_of (allocator_of mid)) (seen_of (allocator_of new))) goes.version (second.becomes (first.has has)) in
+            let same = subst (λ l. ReplacesChain (sector v) [] l [] l (seen_of (allocator_of mid)) (seen_of (allocator_of new))) first.ids then in
             becomes_again (sector v) [] ids [] ids (seen_of (allocator_of old)) (seen_of (allocator_of mid)) (seen_of (allocator_of new)) (first.becomes has) same tt;
         has = λ has. second.has (first.has has);
       }
@@ -258,7 +258,7 @@ module _ {F : Type 0} {g : Ghosts F} where
     noted = noted;
   }
 
-  pub sets_then : (old mid new : Directory F g) → GoesOn (allocator_of old) (allocator_of mid) → SetsLinks old mid → SetsLinks mid new → SetsLinks old new
+  pub sets_then : (old mid new : Directory F g) → KeepsFileInvariants (allocator_of old) (allocator_of mid) → SetsLinks old mid → SetsLinks mid new → SetsLinks old new
   sets_then old mid new goes first second = record {
     written = writes_then old mid new goes first.written second.written;
     alike = as_then (entries_held old) (entries_held mid) (entries_held new) first.alike second.alike;
@@ -266,12 +266,12 @@ module _ {F : Type 0} {g : Ghosts F} where
   }
 
   -- sizes fit still
-  pub sizes_still : (old mid : Directory F g) → GoesOn (allocator_of old) (allocator_of mid) → AreAs (entries_held old) (entries_held mid)
+  pub sizes_still : (old mid : Directory F g) → KeepsFileInvariants (allocator_of old) (allocator_of mid) → AreAs (entries_held old) (entries_held mid)
       → SizesFit (version_of (allocator_of old)) (entries_held old) → SizesFit (version_of (allocator_of mid)) (entries_held mid)
   sizes_still old mid goes alike fits = subst (λ v. SizesFit v (entries_held mid)) (sym goes.version) (alike.sizes (version_of (allocator_of old)) fits)
 
   -- so the directory can take in entries still
-  pub ready_still : (old mid : Directory F g) → GoesOn (allocator_of old) (allocator_of mid) → has_failed_here (allocator_of mid) ≡ false → SetsLinks old mid → IsReady old → IsReady mid
+  pub ready_still : (old mid : Directory F g) → KeepsFileInvariants (allocator_of old) (allocator_of mid) → has_failed_here (allocator_of mid) ≡ false → SetsLinks old mid → CanGrowDirectory old → CanGrowDirectory mid
   ready_still old mid goes live sets ready = record {
     has = sets.written.has ready.has;
     orderly = subst IsTrue (sym (goes.orderly live)) ready.orderly;
@@ -281,7 +281,7 @@ module _ {F : Type 0} {g : Ghosts F} where
 module _ {F : Type 0} {g : Ghosts F} where
   -- what a call answered, over what was done before
   pub answers_wider : {T : Type 0} (refuses also : Error → Type 0) (r : Result T Error) (a m b : Allocator F g) → ((e : Error) → refuses e → also e)
-      → GoesOn a m → has_failed_here a ≡ false → has_failed_here m ≡ false → OnErr r (has_failed_here b ≡ true) → FatAnswers refuses r m b → FatAnswers also r a b
+      → KeepsFileInvariants a m → has_failed_here a ≡ false → has_failed_here m ≡ false → OnErr r (has_failed_here b ≡ true) → FatErrorContract refuses r m b → FatErrorContract also r a b
   answers_wider refuses also (Ok x) a m b wider goes live alive failed told =
       record { live = (live, told.live.1); failed = λ wrong. let never : true ≡ false = sym wrong ∙ live in absurd (cc); after = tt; cause = tt; fault = tt }
   answers_wider refuses also (Err e) a m b wider goes live alive failed told = record {
@@ -292,19 +292,19 @@ module _ {F : Type 0} {g : Ghosts F} where
     fault = ⊎_elim (λ fault. inl fault) (λ is. inr (wider e is)) told.fault;
   }
 
-  pub answers_then : {T : Type 0} (refuses : Error → Type 0) (r : Result T Error) (a m b : Allocator F g) → GoesOn a m → has_failed_here a ≡ false → has_failed_here m ≡ false
-      → OnErr r (has_failed_here b ≡ true) → FatAnswers refuses r m b → FatAnswers refuses r a b
+  pub answers_then : {T : Type 0} (refuses : Error → Type 0) (r : Result T Error) (a m b : Allocator F g) → KeepsFileInvariants a m → has_failed_here a ≡ false → has_failed_here m ≡ false
+      → OnErr r (has_failed_here b ≡ true) → FatErrorContract refuses r m b → FatErrorContract refuses r a b
   answers_then refuses r a m b goes live alive failed told = answers_wider refuses refuses r a m b (λ e is. is) goes live alive failed told
 
   -- memory is that of the bytes, unless it has failed
-  pub kept_or_failed : {T : Type 0} (r : Result T Error) (old new : Directory F g) → GoesOn (allocator_of old) (allocator_of new) → OnOk r (HasDirectory old → GrowsDirectory old new)
-      → OnErr r (has_failed_here (allocator_of new) ≡ true) → IsDirectory old → LiesBeside old → IsDirectory new
+  pub kept_or_failed : {T : Type 0} (r : Result T Error) (old new : Directory F g) → KeepsFileInvariants (allocator_of old) (allocator_of new) → OnOk r (HasDirectory old → GrowsDirectory old new)
+      → OnErr r (has_failed_here (allocator_of new) ≡ true) → DirectoryMatchesBytes old → LiesBeside old → DirectoryMatchesBytes new
   kept_or_failed (Ok x) old new goes grown failed = grown_kept old new goes grown
   kept_or_failed (Err e) old new goes grown failed = λ held beside. failed_is new failed
 
 -- what a link that isn't set answers is no refusal of a name
-pub no_name : (e : Error) → IsFaultUnless ⊥ e ⊎ IsInvalid e → (e ≡ AlreadyExists) ⊎ (e ≡ InvalidInput) → ⊥
-no_name e (inl fault) (inl is) = subst (IsFaultUnless ⊥) is fault
-no_name e (inl fault) (inr is) = subst (IsFaultUnless ⊥) is fault
+pub no_name : (e : Error) → IsFaultOrInvalidInputIf ⊥ e ⊎ IsInvalid e → (e ≡ AlreadyExists) ⊎ (e ≡ InvalidInput) → ⊥
+no_name e (inl fault) (inl is) = subst (IsFaultOrInvalidInputIf ⊥) is fault
+no_name e (inl fault) (inr is) = subst (IsFaultOrInvalidInputIf ⊥) is fault
 no_name e (inr bad) (inl is) = let never : InvalidData ≡ AlreadyExists = sym bad ∙ is in absurd (cc)
 no_name e (inr bad) (inr is) = let never : InvalidData ≡ InvalidInput = sym bad ∙ is in absurd (cc)

@@ -6,7 +6,7 @@ use Rattle.std.proofs.lemmas.Option.{slice_get_within}
 use Rattle.std.proofs.lemmas.List.{get_or-set_same, get_or-set_other, get_or-replicate, length-replicate}
 use Rattle.cfb_sectors.specs.declared.validation.Validation.{Validation}
 use Rattle.cfb_sectors.specs.declared.validation.Validation.TheVariants.{Permissive, Strict}
-use Rattle.cfb_tree.specs.Names.{Letters}
+use Rattle.cfb_tree.specs.Names.{CaseTable}
 use Rattle.cfb_tree.specs.Tree.{Tree, child_names}
 use Rattle.cfb_tree.specs.Directory.{Entry, no_entry, kind_root}
 use Rattle.cfb_tree.proofs.OneContent.{Some_same}
@@ -22,7 +22,7 @@ pub record AreMarked (marks : List Bool) (seen : List ℕ) : Type 0 where
   pub set : (n : ℕ) → n < length marks → get_or marks n false ≡ true → 0 < count_in n seen
   pub unset : (n : ℕ) → n < length marks → get_or marks n false ≡ false → count_in n seen ≡ 0
 
-module _ (validation : Validation) (letters : Letters) (directory : List Entry) where
+module _ (validation : Validation) (letters : CaseTable) (directory : List Entry) where
   -- what hangs at all these links, one after the other
   abbrev pub Hang : (Entry → List ℕ → Type 0) → List Link → List ℕ → Type 0
   Hang Reads [] all = all ≡ []

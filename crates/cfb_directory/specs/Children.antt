@@ -10,49 +10,49 @@ use Rattle.cfb_siblings.specs.Places.{path_to, HasEntry, IsStorageAt, NameIsTake
 use Rattle.cfb_siblings.specs.Reading.{ReadBy}
 use Rattle.cfb_siblings.specs.declared.links.Link.{Link}
 use Rattle.cfb_siblings.specs.declared.removal.Removal.{Removal}
-use Rattle.cfb_tree.specs.Names.{Letters}
+use Rattle.cfb_tree.specs.Names.{CaseTable}
 use Rattle.cfb_tree.specs.Changes.{added, removed}
-use Rattle.cfb_tree.specs.Objects.{name_of, object_at, HoldsTree, IsObject, Object}
+use Rattle.cfb_tree.specs.Objects.{name_of, object_at, EntriesHoldTree, IsObject, Object}
 use Rattle.cfb_tree.specs.Paths.{Path}
 use Rattle.cfb_tree.specs.Tree.{Tree}
 use Rattle.cfb_tree.specs.Directory.{kind_unallocated, Entry}
 use Rattle.cfb_tree.specs.Entries.{empty_entry}
 use Rattle.cfb_directory.specs.Entries.{SizesFit}
-use Rattle.cfb_directory.specs.Growth.{IsReady, MayGrow}
+use Rattle.cfb_directory.specs.Growth.{CanGrowDirectory, MayGrow}
 use Rattle.cfb_directory.specs.Views.{entries_held}
 use Rattle.cfb_directory.specs.declared.directory.Directory.{Directory}
 
 -- refusals by rule of a new child: the name is taken or invalid, no number is left, or the directory isn't there as it must be
-abbrev pub IsRefusedInsert : Error → Type 0
-IsRefusedInsert e = (e ≡ AlreadyExists) ⊎ (e ≡ InvalidInput) ⊎ (e ≡ Full) ⊎ (e ≡ InvalidData)
+abbrev pub IsInsertEntryError : Error → Type 0
+IsInsertEntryError e = (e ≡ AlreadyExists) ⊎ (e ≡ InvalidInput) ⊎ (e ≡ Full) ⊎ (e ≡ InvalidData)
 
 -- refusals by rule where a child goes: there is none, or the directory isn't there as it must be
-abbrev pub IsRefusedRemove : Error → Type 0
-IsRefusedRemove e = (e ≡ NotFound) ⊎ (e ≡ InvalidData)
+abbrev pub IsRemoveEntryError : Error → Type 0
+IsRemoveEntryError e = (e ≡ NotFound) ⊎ (e ≡ InvalidData)
 
 -- the entries hold the tree, in which the path leads to entry `id`, a storage ([MS-CFB] 2.6.2)
-pub record HoldsStorage (letters : Letters) (reads : ℕ → ℕ → List ℕ → Bool) (entries : List Entry) (tree : Tree) (path : Path) (id : ℕ) : Type 0 where
-  pub holds : HoldsTree letters (ReadBy reads) entries tree
+pub record HoldsStorage (letters : CaseTable) (reads : ℕ → ℕ → List ℕ → Bool) (entries : List Entry) (tree : Tree) (path : Path) (id : ℕ) : Type 0 where
+  pub holds : EntriesHoldTree letters (ReadBy reads) entries tree
   pub storage : IsStorageAt letters entries path id
 
 -- so they do, and the link leads to entry `id`, the child of this name of the storage `parent` at the path ([MS-CFB] 2.6.4)
-pub record HoldsChild (letters : Letters) (reads : ℕ → ℕ → List ℕ → Bool) (entries : List Entry) (tree : Tree) (path : Path) (parent : ℕ) (name : List ℕ) (link : Link) (id : ℕ) : Type 0 where
+pub record HoldsChild (letters : CaseTable) (reads : ℕ → ℕ → List ℕ → Bool) (entries : List Entry) (tree : Tree) (path : Path) (parent : ℕ) (name : List ℕ) (link : Link) (id : ℕ) : Type 0 where
   pub within : HoldsStorage letters reads entries tree path parent
   pub taken : NameIsTaken letters entries parent name link id
 
 -- of each tree that the entries hold with such a storage: it has an object of this name in it
-abbrev pub IsNameTaken : Letters → List Entry → ℕ → List ℕ → Type 0
+abbrev pub IsNameTaken : CaseTable → List Entry → ℕ → List ℕ → Type 0
 IsNameTaken letters entries parent name = (reads : ℕ → ℕ → List ℕ → Bool) (tree : Tree) (path : Path)
     → HoldsStorage letters reads entries tree path parent → object_at letters tree (path_to path name) ≢ None
 
 -- of each tree that the entries hold with such a storage: it has no object of this name in it
-abbrev pub IsNameFree : Letters → List Entry → ℕ → List ℕ → Type 0
+abbrev pub IsNameFree : CaseTable → List Entry → ℕ → List ℕ → Type 0
 IsNameFree letters entries parent name = (reads : ℕ → ℕ → List ℕ → Bool) (tree : Tree) (path : Path)
     → HoldsStorage letters reads entries tree path parent → object_at letters tree (path_to path name) ≡ None
 
 -- what it leaves of a tree with such a storage, where the new entry is an object of this name on its own: the tree with it, of one
 -- entry more, to which its path leads; colours stay right
-abbrev pub AddsChild : Letters → List Entry → List Entry → ℕ → List ℕ → Entry → ℕ → Type 0
+abbrev pub AddsChild : CaseTable → List Entry → List Entry → ℕ → List ℕ → Entry → ℕ → Type 0
 AddsChild letters old new parent name e id = (reads : ℕ → ℕ → List ℕ → Bool) (tree : Tree) (path : Path) (object : Object)
     → (h : HoldsStorage letters reads old tree path parent) → IsAlone (ReadBy reads) e object → name_of object ≡ name
     → HoldsOneMore letters (ReadBy reads) old new (added letters object (path_to path name) tree) h.holds.ids (path_to path name) id
@@ -78,8 +78,8 @@ pub record LinksNew (version : Version) (link : Link) (e : Entry) (old new : Lis
   pub entries : new ≡ relinked link id (slice_set grown id e)
 
 -- each entry but this one is as it was, but for its links and its colour
-abbrev pub StayBut : List Entry → List Entry → ℕ → Type 0
-StayBut old new id = (k : ℕ) (e : Entry) → (k ≡ id → ⊥) → slice_get old k ≡ Some e → HasAt new k e
+abbrev pub SameEntriesExcept : List Entry → List Entry → ℕ → Type 0
+SameEntriesExcept old new id = (k : ℕ) (e : Entry) → (k ≡ id → ⊥) → slice_get old k ≡ Some e → HasAt new k e
 
 -- entry `id`, which was in no use if it was there, is this one; the others are as they were: all but for links and colours. They
 -- have become more only where none was in no use
@@ -87,7 +87,7 @@ pub record AddsAt (old new : List Entry) (e : Entry) (id : ℕ) : Type 0 where
   pub entry : HasAt new id e
   pub unused : (was : Entry) → slice_get old id ≡ Some was → was.kind ≡ kind_unallocated
   pub longer : (k : ℕ) → IsUnused old k → length new ≡ length old
-  pub others : StayBut old new id
+  pub others : SameEntriesExcept old new id
   pub sizes : (version : Version) → e.size ≡ 0 → SizesFit version old → SizesFit version new
 
 -- the entries whose links the removal sets are there
@@ -97,7 +97,7 @@ pub record HasHolders (entries : List Entry) (removal : Removal) : Type 0 where
 
 -- entry `id` was an object, and the entries hold the tree without the object at the path and what is in it, which is made of the
 -- root and of the entries `ids` without these; the way to the storage above goes over the same entries
-pub record Removes (letters : Letters) (reads : ℕ → ℕ → List ℕ → Bool) (old new : List Entry) (tree : Tree) (ids : List ℕ) (path : Path) (id : ℕ) : Type 0 where
+pub record Removes (letters : CaseTable) (reads : ℕ → ℕ → List ℕ → Bool) (old new : List Entry) (tree : Tree) (ids : List ℕ) (path : Path) (id : ℕ) : Type 0 where
   pub object : Object
   pub own : List ℕ
   pub is_object : IsObject old (ReadBy reads) id object own
@@ -105,17 +105,17 @@ pub record Removes (letters : Letters) (reads : ℕ → ℕ → List ℕ → Boo
 
 -- what it leaves of a tree with such a child: the tree without it
 abbrev pub RemovesChild : List Entry → List Entry → Link → ℕ → Type 0
-RemovesChild old new link id = (letters : Letters) (reads : ℕ → ℕ → List ℕ → Bool) (tree : Tree) (path : Path) (parent : ℕ) (name : List ℕ)
+RemovesChild old new link id = (letters : CaseTable) (reads : ℕ → ℕ → List ℕ → Bool) (tree : Tree) (path : Path) (parent : ℕ) (name : List ℕ)
     → (h : HoldsChild letters reads old tree path parent name link id) → Removes letters reads old new tree h.within.holds.ids (path_to path name) id
 
 -- entry `id` is in no use; the others are as they were, all but for links and colours
 pub record RemovesAt (old new : List Entry) (id : ℕ) : Type 0 where
   pub entry : slice_get new id ≡ Some empty_entry
-  pub others : StayBut old new id
+  pub others : SameEntriesExcept old new id
   pub sizes : (version : Version) → SizesFit version old → SizesFit version new
 
 module _ {F : Type 0} {g : Ghosts F} where
   -- the directory isn't ready, or holds no tree with a storage at this number ([MS-CFB] 2.6.2)
-  abbrev pub HasNoStorage : Letters → Directory F g → ℕ → Type 0
+  abbrev pub HasNoStorage : CaseTable → Directory F g → ℕ → Type 0
   HasNoStorage letters it parent = (reads : ℕ → ℕ → List ℕ → Bool) (tree : Tree) (path : Path)
-      → HoldsStorage letters reads (entries_held it) tree path parent → IsReady it → ⊥
+      → HoldsStorage letters reads (entries_held it) tree path parent → CanGrowDirectory it → ⊥

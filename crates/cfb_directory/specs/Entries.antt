@@ -25,8 +25,8 @@ abbrev pub IsOneOf : List ℕ → ℕ → Type 0
 IsOneOf numbers id = IsTrue (list_any (nat_eq id) numbers)
 
 -- the numbers of all entries in no use are among these
-abbrev pub AreNoted : List ℕ → List Entry → Type 0
-AreNoted numbers entries = (id : ℕ) → IsUnused entries id → IsOneOf numbers id
+abbrev pub ListsUnusedEntries : List ℕ → List Entry → Type 0
+ListsUnusedEntries numbers entries = (id : ℕ) → IsUnused entries id → IsOneOf numbers id
 
 -- where this entry is in no use, its number is one of these
 abbrev pub IsNoted : List ℕ → ℕ → Entry → Type 0

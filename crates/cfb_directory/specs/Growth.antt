@@ -6,8 +6,8 @@ use Rattle.cfb_medium.specs.declared.version.Version.{Version}
 use Rattle.cfb_medium.specs.declared.version.Version.TheVariants.{V3, V4}
 use Rattle.cfb_sectors.specs.Header.{directory_sector_count}
 use Rattle.cfb_sectors.specs.Sectors.{greatest_regular, sector}
-use Rattle.cfb_chains.specs.Owned.{Becomes}
-use Rattle.cfb_fat.specs.Growing.{LacksNumbers}
+use Rattle.cfb_chains.specs.Owned.{ReplacesChain}
+use Rattle.cfb_fat.specs.Growing.{LacksSectorNumbers}
 use Rattle.cfb_fat.specs.Seeing.{seen_of}
 use Rattle.cfb_fat.specs.Tables.{bytes_of, orderly_of, version_of}
 use Rattle.cfb_tree.specs.Directory.{greatest_entry, Entry}
@@ -23,9 +23,9 @@ count_words V3 = []
 count_words V4 = 40 ∷ []
 
 -- in version 4 the header counts so many sectors of the directory ([MS-CFB] 2.2)
-abbrev pub IsCounted : Version → List ℕ → ℕ → Type 0
-IsCounted V3 bytes count = ⊤
-IsCounted V4 bytes count = directory_sector_count bytes ≡ count
+abbrev pub HeaderCountsDirectory : Version → List ℕ → ℕ → Type 0
+HeaderCountsDirectory V3 bytes count = ⊤
+HeaderCountsDirectory V4 bytes count = directory_sector_count bytes ≡ count
 
 -- the entries, and those of a sector in no use behind them
 abbrev pub longer : Version → List Entry → List Entry
@@ -41,13 +41,13 @@ module _ {F : Type 0} {g : Ghosts F} where
   pub record GrowsDirectory (old new : Directory F g) : Type 0 where
     pub more : List ℕ
     pub ids : directory_ids new ≡ directory_ids old ++ more
-    pub becomes : Becomes (sector (version_of (allocator_of old))) (count_words (version_of (allocator_of old))) (directory_ids old) more (directory_ids new) (seen_of (allocator_of old)) (seen_of (allocator_of new))
+    pub becomes : ReplacesChain (sector (version_of (allocator_of old))) (count_words (version_of (allocator_of old))) (directory_ids old) more (directory_ids new) (seen_of (allocator_of old)) (seen_of (allocator_of new))
     pub has : HasDirectory new
-    pub counted : IsCounted (version_of (allocator_of old)) (bytes_of (allocator_of old)) (length (directory_ids old)) → IsCounted (version_of (allocator_of old)) (bytes_of (allocator_of new)) (length (directory_ids new))
+    pub counted : HeaderCountsDirectory (version_of (allocator_of old)) (bytes_of (allocator_of old)) (length (directory_ids old)) → HeaderCountsDirectory (version_of (allocator_of old)) (bytes_of (allocator_of new)) (length (directory_ids new))
 
   -- the directory can take in entries: its sectors are a chain beside the tables, which can be changed, and its entries can be
   -- written as they are
-  pub record IsReady (it : Directory F g) : Type 0 where
+  pub record CanGrowDirectory (it : Directory F g) : Type 0 where
     pub has : HasDirectory it
     pub orderly : IsTrue (orderly_of (allocator_of it))
     pub sizes : SizesFit (version_of (allocator_of it)) (entries_held it)
@@ -56,4 +56,4 @@ module _ {F : Type 0} {g : Ghosts F} where
   -- in the directory's chain ([MS-CFB] 2.2, 2.6.1)
   unfoldable pub LacksEntries : Directory F g → Type 0
   LacksEntries it = HasNoneUnused (entries_held it) × ((greatest_entry + 1 < length (entries_held it) + dir_entries_per_sector (version_of (allocator_of it)))
-      ⊎ LacksNumbers (allocator_of it) 1 ⊎ (greatest_regular < length (directory_ids it)))
+      ⊎ LacksSectorNumbers (allocator_of it) 1 ⊎ (greatest_regular < length (directory_ids it)))

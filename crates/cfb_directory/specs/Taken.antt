@@ -4,11 +4,11 @@ use Rattle.std.specs.List.{AllByRecursion}
 use Rattle.std.specs.declared.cmp.Ordering.TheVariants.{Less}
 use Rattle.cfb_sectors.specs.declared.validation.Validation.{Validation}
 use Rattle.cfb_sectors.specs.declared.validation.Validation.TheVariants.{Permissive, Strict}
-use Rattle.cfb_tree.specs.Names.{Letters, name_cmp}
+use Rattle.cfb_tree.specs.Names.{CaseTable, name_cmp}
 use Rattle.cfb_tree.specs.Tree.{Tree}
 use Rattle.cfb_tree.specs.Directory.{Entry, HasName, greatest_entry, red}
 use Rattle.cfb_tree.specs.Entries.{IsTakenRoot, IsTakenBelow, IsBlackAt}
-use Rattle.cfb_tree.specs.Objects.{HoldsTree}
+use Rattle.cfb_tree.specs.Objects.{EntriesHoldTree}
 
 -- a reader takes the entry as the root; a strict one asks for its name ([MS-CFB] 2.6.2)
 abbrev pub IsTakenAsRoot : Validation → Entry → Type 0
@@ -22,8 +22,8 @@ IsTakenIn Permissive directory e = IsTakenBelow Permissive e
 IsTakenIn Strict directory e = IsTakenBelow Strict e × (e.color ≡ red → IsBlackAt directory e.left × IsBlackAt directory e.right)
 
 -- a reader takes the directory as this tree, where `Reads` says which bytes a stream has ([MS-CFB] 2.6)
-pub record IsTakenAs (validation : Validation) (letters : Letters) (Reads : Entry → List ℕ → Type 0) (directory : List Entry) (tree : Tree) : Type 0 where
-  pub holds : HoldsTree letters Reads directory tree
+pub record IsTakenAs (validation : Validation) (letters : CaseTable) (Reads : Entry → List ℕ → Type 0) (directory : List Entry) (tree : Tree) : Type 0 where
+  pub holds : EntriesHoldTree letters Reads directory tree
   pub root : IsTakenAsRoot validation holds.root
   pub below : AllByRecursion (λ id. IfSome (slice_get directory id) (IsTakenIn validation directory)) holds.ids
 
@@ -32,7 +32,7 @@ abbrev pub HasAny : Entry → List ℕ → Type 0
 HasAny e content = ⊤
 
 -- one entry's name comes before another's ([MS-CFB] 2.6.4)
-pub record Precedes (letters : Letters) (directory : List Entry) (one other : ℕ) : Type 0 where
+pub record Precedes (letters : CaseTable) (directory : List Entry) (one other : ℕ) : Type 0 where
   pub first : Entry
   pub second : Entry
   pub first_name : List ℕ
@@ -44,16 +44,16 @@ pub record Precedes (letters : Letters) (directory : List Entry) (one other : �
   pub less : name_cmp letters first_name second_name ≡ Less
 
 -- the entry comes behind one and before another, where there are such ([MS-CFB] 2.6.4)
-abbrev pub IsBehind : Letters → List Entry → Option ℕ → ℕ → Type 0
+abbrev pub IsBehind : CaseTable → List Entry → Option ℕ → ℕ → Type 0
 IsBehind letters directory None id = ⊤
 IsBehind letters directory (Some low) id = Precedes letters directory low id
 
-abbrev pub IsAhead : Letters → List Entry → Option ℕ → ℕ → Type 0
+abbrev pub IsAhead : CaseTable → List Entry → Option ℕ → ℕ → Type 0
 IsAhead letters directory None id = ⊤
 IsAhead letters directory (Some high) id = Precedes letters directory id high
 
 -- a reader takes the entry of this number as a sibling between two others ([MS-CFB] 2.6)
-pub record IsFit (validation : Validation) (letters : Letters) (directory : List Entry) (low high : Option ℕ) (id : ℕ) : Type 0 where
+pub record IsFit (validation : Validation) (letters : CaseTable) (directory : List Entry) (low high : Option ℕ) (id : ℕ) : Type 0 where
   pub fits : id ≤ greatest_entry
   pub entry : Entry
   pub found : slice_get directory id ≡ Some entry

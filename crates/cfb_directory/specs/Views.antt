@@ -2,10 +2,10 @@
 use Rattle.std.specs.Prelude.{◌≡◌, ℕ, List, false, IsTrue}
 use Rattle.cfb_medium.specs.declared.medium.ReadMedium.{Ghosts}
 use Rattle.cfb_sectors.specs.Sectors.{joined}
-use Rattle.cfb_chains.specs.Grown.{IsLinked}
+use Rattle.cfb_chains.specs.Grown.{IsChainInTable}
 use Rattle.cfb_chains.specs.LinkViews.{ids_of, links_version}
 use Rattle.cfb_chains.specs.declared.links.Links.{Links}
-use Rattle.cfb_fat.specs.Tables.{bytes_of, fat_of, has_failed_here, is_honest, version_of, AllRests, KeepsTables}
+use Rattle.cfb_fat.specs.Tables.{bytes_of, fat_of, has_failed_here, is_honest, version_of, OnlyReadsAllocator, KeepsTables}
 use Rattle.cfb_fat.specs.declared.allocator.Allocator.{Allocator}
 use Rattle.cfb_tree.specs.Directory.{Entry, entries_of}
 use Rattle.cfb_directory.specs.Entries.{entries_in}
@@ -36,18 +36,18 @@ module _ {F : Type 0} {g : Ghosts F} where
 
   -- memory is that of the bytes: while nothing failed and the medium is honest the FAT has the chain of the directory's sectors,
   -- and the entries are those that these hold ([MS-CFB] 2.6)
-  pub record IsDirectory (it : Directory F g) : Type 0 where
+  pub record DirectoryMatchesBytes (it : Directory F g) : Type 0 where
     pub version : has_failed_here (allocator_of it) ≡ false → IsTrue (is_honest (allocator_of it)) → links_version it.links ≡ version_of (allocator_of it)
-    pub linked : has_failed_here (allocator_of it) ≡ false → IsTrue (is_honest (allocator_of it)) → IsLinked (fat_of (allocator_of it)) (directory_ids it)
+    pub linked : has_failed_here (allocator_of it) ≡ false → IsTrue (is_honest (allocator_of it)) → IsChainInTable (fat_of (allocator_of it)) (directory_ids it)
     pub entries : has_failed_here (allocator_of it) ≡ false → IsTrue (is_honest (allocator_of it))
         → entries_held it ≡ entries_of (version_of (allocator_of it)) (joined (version_of (allocator_of it)) (bytes_of (allocator_of it)) (directory_ids it))
 
   -- nothing but reads and flushes was done
-  pub record DirectoryRests (old new : Directory F g) : Type 0 where
-    pub allocator : AllRests (allocator_of old) (allocator_of new)
+  pub record OnlyReadsDirectory (old new : Directory F g) : Type 0 where
+    pub allocator : OnlyReadsAllocator (allocator_of old) (allocator_of new)
     pub ids : directory_ids new ≡ directory_ids old
     pub entries : entries_held new ≡ entries_held old
-    pub kept : IsDirectory old → IsDirectory new
+    pub kept : DirectoryMatchesBytes old → DirectoryMatchesBytes new
 
   -- the memory is what it was, and that of the bytes where it was so
   pub record DirectoryKeepsMemory (old new : Directory F g) : Type 0 where
@@ -56,4 +56,4 @@ module _ {F : Type 0} {g : Ghosts F} where
     pub tables : KeepsTables (allocator_of old) (allocator_of new)
     pub ids : directory_ids new ≡ directory_ids old
     pub entries : entries_held new ≡ entries_held old
-    pub kept : IsDirectory old → IsDirectory new
+    pub kept : DirectoryMatchesBytes old → DirectoryMatchesBytes new

@@ -1,20 +1,20 @@
 //! Entries changed in their places.
 ghost use Rattle.cfb_directory.specs.Changes.{changed_entry, HasDirectory, KeepsEntries, LiesBeside, SetsEntry};
 ghost use Rattle.cfb_directory.specs.Entries.{IsNoted};
-ghost use Rattle.cfb_directory.specs.Views.{allocator_of, entries_held, numbers_noted, IsDirectory, DirectoryRests};
+ghost use Rattle.cfb_directory.specs.Views.{allocator_of, entries_held, numbers_noted, DirectoryMatchesBytes, OnlyReadsDirectory};
 ghost use Rattle.cfb_chains.specs.ChainCalls.{IsInvalid};
-ghost use Rattle.cfb_fat.specs.Calls.{FatAnswers};
+ghost use Rattle.cfb_fat.specs.Calls.{FatErrorContract};
 ghost use Rattle.cfb_fat.specs.Tables.{has_failed_here, version_of};
 ghost use Rattle.cfb_medium.specs.Versions.{stream_len_mask};
 ghost use Rattle.cfb_medium.specs.declared.error.Error.TheVariants.{InvalidData, InvalidInput};
-ghost use Rattle.cfb_owned.specs.Chains.{GoesOn};
+ghost use Rattle.cfb_chain_io.specs.ChainEffects.{KeepsFileInvariants};
 ghost use Rattle.cfb_tree.specs.Directory.{Entry};
 ghost use Rattle.cfb_tree.specs.EntryViews.{entry_in};
 ghost use Rattle.std.specs.Prelude.{false, length, slice_get, IsErrOf, OnErr, OnOk, Some, ◌<◌, ◌≡◌, ◌≤◌, ◌↔◌, ◌⊎◌};
 
 use crate::Directory;
+use cfb_chain_io::overwrite_chain;
 use cfb_medium::{Error, Medium, Timestamp};
-use cfb_owned::overwrite_chain;
 use cfb_sectors::{DIR_ENTRY_LEN, HasSectors};
 use cfb_tree::DirEntry;
 use uuid::Uuid;
@@ -64,12 +64,13 @@ impl<F: Medium> Directory<F> {
         requires noted { IsNoted (numbers_noted self.old) id (entry_in entry) }
         ensures set { OnOk result (SetsEntry id (entry_in entry) self.old self.new) }
         ensures kept { OnErr result (KeepsEntries self.old self.new) }
-        ensures memory { IsDirectory self.old → LiesBeside self.old → IsDirectory self.new }
-        ensures refused { IsErrOf result InvalidData → HasDirectory self.old → ⊥ }
+        ensures memory { DirectoryMatchesBytes self.old → LiesBeside self.old
+            → DirectoryMatchesBytes self.new }
+        ensures refused_only_if { IsErrOf result InvalidData → HasDirectory self.old → ⊥ }
         ensures valid { IsErrOf result InvalidInput → ⊥ }
         ensures noted { numbers_noted self.new ≡ numbers_noted self.old }
-        ensures goes_on { GoesOn (allocator_of self.old) (allocator_of self.new) }
-        ensures answers { FatAnswers IsInvalid result (allocator_of self.old)
+        ensures invariants { KeepsFileInvariants (allocator_of self.old) (allocator_of self.new) }
+        ensures error_contract { FatErrorContract IsInvalid result (allocator_of self.old)
             (allocator_of self.new) }
     {
         if self.allocator.is_failed() {
@@ -100,15 +101,17 @@ impl<F: Medium> Directory<F> {
         ensures set { OnOk result ((e : Entry) → slice_get (entries_held self.old) id ≡ Some e
             → SetsEntry id (changed_entry change e) self.old self.new) }
         ensures kept { OnErr result (KeepsEntries self.old self.new) }
-        ensures memory { IsDirectory self.old → LiesBeside self.old → IsDirectory self.new }
-        ensures rests { IsErrOf result InvalidInput → DirectoryRests self.old self.new }
-        ensures refused { IsErrOf result InvalidData → HasDirectory self.old → ⊥ }
+        ensures memory { DirectoryMatchesBytes self.old → LiesBeside self.old
+            → DirectoryMatchesBytes self.new }
+        ensures only_reads { IsErrOf result InvalidInput → OnlyReadsDirectory self.old self.new }
+        ensures refused_only_if { IsErrOf result InvalidData → HasDirectory self.old → ⊥ }
         ensures large { (e : Entry) → slice_get (entries_held self.old) id ≡ Some e
             → IsErrOf result InvalidInput ↔ ((has_failed_here (allocator_of self.old) ≡ false)
             × (stream_len_mask (version_of (allocator_of self.old))
             < (changed_entry change e).size)) }
-        ensures goes_on { GoesOn (allocator_of self.old) (allocator_of self.new) }
-        ensures answers { FatAnswers (λ e. (e ≡ InvalidData) ⊎ (e ≡ InvalidInput)) result
+        ensures invariants { KeepsFileInvariants (allocator_of self.old) (allocator_of self.new) }
+        ensures error_contract { FatErrorContract
+            (λ e. (e ≡ InvalidData) ⊎ (e ≡ InvalidInput)) result
             (allocator_of self.old) (allocator_of self.new) }
     {
         if self.allocator.is_failed() {
@@ -127,15 +130,17 @@ impl<F: Medium> Directory<F> {
         ensures set { OnOk result ((e : Entry) → slice_get (entries_held self.old) 0 ≡ Some e
             → SetsEntry 0 (changed_entry change e) self.old self.new) }
         ensures kept { OnErr result (KeepsEntries self.old self.new) }
-        ensures memory { IsDirectory self.old → LiesBeside self.old → IsDirectory self.new }
-        ensures rests { IsErrOf result InvalidInput → DirectoryRests self.old self.new }
-        ensures refused { IsErrOf result InvalidData → HasDirectory self.old → ⊥ }
+        ensures memory { DirectoryMatchesBytes self.old → LiesBeside self.old
+            → DirectoryMatchesBytes self.new }
+        ensures only_reads { IsErrOf result InvalidInput → OnlyReadsDirectory self.old self.new }
+        ensures refused_only_if { IsErrOf result InvalidData → HasDirectory self.old → ⊥ }
         ensures large { (e : Entry) → slice_get (entries_held self.old) 0 ≡ Some e
             → IsErrOf result InvalidInput ↔ ((has_failed_here (allocator_of self.old) ≡ false)
             × (stream_len_mask (version_of (allocator_of self.old))
             < (changed_entry change e).size)) }
-        ensures goes_on { GoesOn (allocator_of self.old) (allocator_of self.new) }
-        ensures answers { FatAnswers (λ e. (e ≡ InvalidData) ⊎ (e ≡ InvalidInput)) result
+        ensures invariants { KeepsFileInvariants (allocator_of self.old) (allocator_of self.new) }
+        ensures error_contract { FatErrorContract
+            (λ e. (e ≡ InvalidData) ⊎ (e ≡ InvalidInput)) result
             (allocator_of self.old) (allocator_of self.new) }
     {
         self.with_dir_entry_mut(0, change)

@@ -1,23 +1,23 @@
 //! Entries that come and go: children of storages by name ([MS-CFB] 2.6.4).
 ghost use Rattle.cfb_chains.specs.ChainCalls.{IsInvalid, IsInvalidOrFull};
 ghost use Rattle.cfb_directory.specs.Changes.{HasDirectory, KeepsEntries, LiesBeside, SetsEntry};
-ghost use Rattle.cfb_directory.specs.Children.{AddsAt, AddsChild, HasHolders, HasNoStorage, HoldsChild, HoldsStorage, IsNameFree, IsNameTaken, IsRefusedInsert, IsRefusedRemove, LinksNew, Removes, RemovesAt, RemovesChild};
+ghost use Rattle.cfb_directory.specs.Children.{AddsAt, AddsChild, HasHolders, HasNoStorage, HoldsChild, HoldsStorage, IsNameFree, IsNameTaken, IsInsertEntryError, IsRemoveEntryError, LinksNew, Removes, RemovesAt, RemovesChild};
 ghost use Rattle.cfb_directory.specs.Entries.{IsOneOf, SizesFit};
-ghost use Rattle.cfb_directory.specs.Growth.{GrowsDirectory, IsReady, LacksEntries};
-ghost use Rattle.cfb_directory.specs.Turning.{WritesEntries};
-ghost use Rattle.cfb_directory.specs.Views.{allocator_of, entries_held, numbers_noted, IsDirectory, DirectoryRests};
-ghost use Rattle.cfb_fat.specs.Calls.{FatAnswers};
+ghost use Rattle.cfb_directory.specs.Growth.{GrowsDirectory, CanGrowDirectory, LacksEntries};
+ghost use Rattle.cfb_directory.specs.Turning.{WritesDirEntries};
+ghost use Rattle.cfb_directory.specs.Views.{allocator_of, entries_held, numbers_noted, DirectoryMatchesBytes, OnlyReadsDirectory};
+ghost use Rattle.cfb_fat.specs.Calls.{FatErrorContract};
 ghost use Rattle.cfb_fat.specs.Tables.{has_failed_here, version_of};
 ghost use Rattle.cfb_medium.specs.Times.{units_of};
 ghost use Rattle.cfb_medium.specs.declared.error.Error.TheVariants.{AlreadyExists, Full, InvalidData, InvalidInput, NotFound};
-ghost use Rattle.cfb_owned.specs.Chains.{GoesOn};
+ghost use Rattle.cfb_chain_io.specs.ChainEffects.{KeepsFileInvariants};
 ghost use Rattle.cfb_siblings.specs.Links.{holder, joined_by, linked_to, taken_out};
 ghost use Rattle.cfb_siblings.specs.Places.{path_to, HasEntry};
 ghost use Rattle.cfb_tree.specs.Directory.{Entry};
 ghost use Rattle.cfb_tree.specs.EntryViews.{entry_in, kind_of};
 ghost use Rattle.cfb_tree.specs.Entries.{empty_entry, new_entry};
-ghost use Rattle.cfb_tree.specs.LetterViews.{letters_of};
-ghost use Rattle.cfb_tree.specs.Names.{is_name, Letters};
+ghost use Rattle.cfb_tree.specs.CaseTableViews.{case_table_of};
+ghost use Rattle.cfb_tree.specs.Names.{is_name, CaseTable};
 ghost use Rattle.cfb_tree.specs.Paths.{Path};
 ghost use Rattle.cfb_tree.specs.Tree.{Tree};
 ghost use Rattle.std.specs.Prelude.{chars, false, length, slice_get, slice_set, true, Bool, IfOk, IfSome, IsErrOf, IsTrue, List, OnErr, OnOk, Some, ℕ, ◌<◌, ◌≡◌, ◌⊎◌};
@@ -36,13 +36,14 @@ impl<F: Medium> Directory<F> {
             × (slice_get (entries_held self.old) (holder link) ≡ Some e)
             × SetsEntry (holder link) (linked_to link target e) self.old self.new) }
         ensures kept { OnErr result (KeepsEntries self.old self.new) }
-        ensures memory { IsDirectory self.old → LiesBeside self.old → IsDirectory self.new }
-        ensures refused { IsErrOf result InvalidData → HasDirectory self.old
+        ensures memory { DirectoryMatchesBytes self.old → LiesBeside self.old
+            → DirectoryMatchesBytes self.new }
+        ensures refused_only_if { IsErrOf result InvalidData → HasDirectory self.old
             → HasEntry (entries_held self.old) (holder link)
             → SizesFit (version_of (allocator_of self.old)) (entries_held self.old) → ⊥ }
         ensures noted { numbers_noted self.new ≡ numbers_noted self.old }
-        ensures goes_on { GoesOn (allocator_of self.old) (allocator_of self.new) }
-        ensures answers { FatAnswers IsInvalid result (allocator_of self.old)
+        ensures invariants { KeepsFileInvariants (allocator_of self.old) (allocator_of self.new) }
+        ensures error_contract { FatErrorContract IsInvalid result (allocator_of self.old)
             (allocator_of self.new) }
     {
         if self.allocator.is_failed() {
@@ -69,13 +70,14 @@ impl<F: Medium> Directory<F> {
         ensures grown { OnOk result (HasDirectory self.old → GrowsDirectory self.old self.new) }
         ensures kept { OnErr result (has_failed_here (allocator_of self.new) ≡ false
             → KeepsEntries self.old self.new) }
-        ensures memory { IsDirectory self.old → LiesBeside self.old → IsDirectory self.new }
-        ensures refused { IsErrOf result InvalidData → IsReady self.old
+        ensures memory { DirectoryMatchesBytes self.old → LiesBeside self.old
+            → DirectoryMatchesBytes self.new }
+        ensures refused_only_if { IsErrOf result InvalidData → CanGrowDirectory self.old
             → HasEntry (entries_held self.old) (holder link) → ⊥ }
-        ensures full { IsErrOf result Full → has_failed_here (allocator_of self.new) ≡ false
+        ensures full_only_if { IsErrOf result Full → has_failed_here (allocator_of self.new) ≡ false
             → LacksEntries self.old }
-        ensures goes_on { GoesOn (allocator_of self.old) (allocator_of self.new) }
-        ensures answers { FatAnswers IsInvalidOrFull result (allocator_of self.old)
+        ensures invariants { KeepsFileInvariants (allocator_of self.old) (allocator_of self.new) }
+        ensures error_contract { FatErrorContract IsInvalidOrFull result (allocator_of self.old)
             (allocator_of self.new) }
     {
         let id = match self.free_entry() {
@@ -107,27 +109,30 @@ impl<F: Medium> Directory<F> {
         obj_type: ObjType,
         moment: Timestamp,
     ) -> Result<u32, Error>
-        ensures added { IfOk result (AddsChild (letters_of letters.now) (entries_held self.old)
+        ensures added { IfOk result (AddsChild (case_table_of letters.now) (entries_held self.old)
             (entries_held self.new) parent (chars name.now)
             (new_entry (chars name.now) (kind_of obj_type) (units_of moment))) }
         ensures entry { IfOk result (AddsAt (entries_held self.old) (entries_held self.new)
             (new_entry (chars name.now) (kind_of obj_type) (units_of moment))) }
         ensures taken { IsErrOf result AlreadyExists
-            → IsNameTaken (letters_of letters.now) (entries_held self.old) parent (chars name.now) }
+            → IsNameTaken (case_table_of letters.now) (entries_held self.old) parent
+            (chars name.now) }
         ensures named { IsErrOf result InvalidInput → (IsTrue (is_name (chars name.now)) → ⊥)
-            × IsNameFree (letters_of letters.now) (entries_held self.old) parent (chars name.now) }
-        ensures rests { IsErrOf result AlreadyExists ⊎ IsErrOf result InvalidInput
-            → DirectoryRests self.old self.new }
-        ensures refused { IsErrOf result InvalidData
-            → HasNoStorage (letters_of letters.now) self.old parent }
-        ensures full { IsErrOf result Full → has_failed_here (allocator_of self.new) ≡ false
+            × IsNameFree (case_table_of letters.now) (entries_held self.old) parent
+            (chars name.now) }
+        ensures only_reads { IsErrOf result AlreadyExists ⊎ IsErrOf result InvalidInput
+            → OnlyReadsDirectory self.old self.new }
+        ensures refused_only_if { IsErrOf result InvalidData
+            → HasNoStorage (case_table_of letters.now) self.old parent }
+        ensures full_only_if { IsErrOf result Full → has_failed_here (allocator_of self.new) ≡ false
             → LacksEntries self.old }
         ensures grown { OnOk result (HasDirectory self.old → GrowsDirectory self.old self.new) }
         ensures kept { OnErr result (has_failed_here (allocator_of self.new) ≡ false
             → KeepsEntries self.old self.new) }
-        ensures memory { IsDirectory self.old → LiesBeside self.old → IsDirectory self.new }
-        ensures goes_on { GoesOn (allocator_of self.old) (allocator_of self.new) }
-        ensures answers { FatAnswers IsRefusedInsert result (allocator_of self.old)
+        ensures memory { DirectoryMatchesBytes self.old → LiesBeside self.old
+            → DirectoryMatchesBytes self.new }
+        ensures invariants { KeepsFileInvariants (allocator_of self.old) (allocator_of self.new) }
+        ensures error_contract { FatErrorContract IsInsertEntryError result (allocator_of self.old)
             (allocator_of self.new) }
     {
         if self.allocator.is_failed() {
@@ -156,12 +161,12 @@ impl<F: Medium> Directory<F> {
         requires { has_failed_here (allocator_of self.old) ≡ false }
         ensures set { OnOk result (entries_held self.new
             ≡ joined_by joined (entries_held self.old)) }
-        ensures written { OnOk result (WritesEntries self.old self.new) }
-        ensures refused { IsErrOf result InvalidData → IsReady self.old
+        ensures written { OnOk result (WritesDirEntries self.old self.new) }
+        ensures refused_only_if { IsErrOf result InvalidData → CanGrowDirectory self.old
             → IfSome joined (λ it. HasEntry (entries_held self.old) (holder it.link)) → ⊥ }
         ensures noted { numbers_noted self.new ≡ numbers_noted self.old }
-        ensures goes_on { GoesOn (allocator_of self.old) (allocator_of self.new) }
-        ensures answers { FatAnswers IsInvalid result (allocator_of self.old)
+        ensures invariants { KeepsFileInvariants (allocator_of self.old) (allocator_of self.new) }
+        ensures error_contract { FatErrorContract IsInvalid result (allocator_of self.old)
             (allocator_of self.new) }
     {
         match joined {
@@ -177,12 +182,12 @@ impl<F: Medium> Directory<F> {
         requires noted { IsOneOf (numbers_noted self.old) id }
         ensures taken { OnOk result (entries_held self.new
             ≡ slice_set (taken_out removal (entries_held self.old)) id empty_entry) }
-        ensures written { OnOk result (WritesEntries self.old self.new) }
-        ensures refused { IsErrOf result InvalidData → IsReady self.old
+        ensures written { OnOk result (WritesDirEntries self.old self.new) }
+        ensures refused_only_if { IsErrOf result InvalidData → CanGrowDirectory self.old
             → HasHolders (entries_held self.old) removal → ⊥ }
-        ensures failed { OnErr result (has_failed_here (allocator_of self.new) ≡ true) }
-        ensures goes_on { GoesOn (allocator_of self.old) (allocator_of self.new) }
-        ensures answers { FatAnswers IsInvalid result (allocator_of self.old)
+        ensures when_failed { OnErr result (has_failed_here (allocator_of self.new) ≡ true) }
+        ensures invariants { KeepsFileInvariants (allocator_of self.old) (allocator_of self.new) }
+        ensures error_contract { FatErrorContract IsInvalid result (allocator_of self.old)
             (allocator_of self.new) }
     {
         if let Err(error) = self.write_joined(removal.joined) {
@@ -209,17 +214,18 @@ impl<F: Medium> Directory<F> {
             (entries_held self.new) link id) }
         ensures entry { OnOk result (RemovesAt (entries_held self.old) (entries_held self.new)
             id) }
-        ensures refused { IsErrOf result InvalidData
-            → (letters : Letters) (reads : ℕ → ℕ → List ℕ → Bool) (tree : Tree) (path : Path)
+        ensures refused_only_if { IsErrOf result InvalidData
+            → (letters : CaseTable) (reads : ℕ → ℕ → List ℕ → Bool) (tree : Tree) (path : Path)
             (parent : ℕ) (name : List ℕ)
             → HoldsChild letters reads (entries_held self.old) tree path parent name link id
-            → IsReady self.old → ⊥ }
+            → CanGrowDirectory self.old → ⊥ }
         ensures grown { OnOk result (HasDirectory self.old → GrowsDirectory self.old self.new) }
         ensures kept { OnErr result (has_failed_here (allocator_of self.new) ≡ false
             → KeepsEntries self.old self.new) }
-        ensures memory { IsDirectory self.old → LiesBeside self.old → IsDirectory self.new }
-        ensures goes_on { GoesOn (allocator_of self.old) (allocator_of self.new) }
-        ensures answers { FatAnswers IsInvalid result (allocator_of self.old)
+        ensures memory { DirectoryMatchesBytes self.old → LiesBeside self.old
+            → DirectoryMatchesBytes self.new }
+        ensures invariants { KeepsFileInvariants (allocator_of self.old) (allocator_of self.new) }
+        ensures error_contract { FatErrorContract IsInvalid result (allocator_of self.old)
             (allocator_of self.new) }
     {
         if self.allocator.is_failed() {
@@ -252,22 +258,24 @@ impl<F: Medium> Directory<F> {
         name: &str,
     ) -> Result<(), Error>
         ensures removed { OnOk result ((reads : ℕ → ℕ → List ℕ → Bool) (tree : Tree) (path : Path)
-            → (h : HoldsStorage (letters_of letters.now) reads (entries_held self.old) tree
-            path parent) → (id : ℕ) × Removes (letters_of letters.now) reads
+            → (h : HoldsStorage (case_table_of letters.now) reads (entries_held self.old) tree
+            path parent) → (id : ℕ) × Removes (case_table_of letters.now) reads
             (entries_held self.old) (entries_held self.new) tree h.holds.ids
             (path_to path (chars name.now)) id
             × RemovesAt (entries_held self.old) (entries_held self.new) id) }
         ensures missing { IsErrOf result NotFound
-            → IsNameFree (letters_of letters.now) (entries_held self.old) parent (chars name.now) }
-        ensures rests { IsErrOf result NotFound → DirectoryRests self.old self.new }
-        ensures refused { IsErrOf result InvalidData
-            → HasNoStorage (letters_of letters.now) self.old parent }
+            → IsNameFree (case_table_of letters.now) (entries_held self.old) parent
+            (chars name.now) }
+        ensures only_reads { IsErrOf result NotFound → OnlyReadsDirectory self.old self.new }
+        ensures refused_only_if { IsErrOf result InvalidData
+            → HasNoStorage (case_table_of letters.now) self.old parent }
         ensures grown { OnOk result (HasDirectory self.old → GrowsDirectory self.old self.new) }
         ensures kept { OnErr result (has_failed_here (allocator_of self.new) ≡ false
             → KeepsEntries self.old self.new) }
-        ensures memory { IsDirectory self.old → LiesBeside self.old → IsDirectory self.new }
-        ensures goes_on { GoesOn (allocator_of self.old) (allocator_of self.new) }
-        ensures answers { FatAnswers IsRefusedRemove result (allocator_of self.old)
+        ensures memory { DirectoryMatchesBytes self.old → LiesBeside self.old
+            → DirectoryMatchesBytes self.new }
+        ensures invariants { KeepsFileInvariants (allocator_of self.old) (allocator_of self.new) }
+        ensures error_contract { FatErrorContract IsRemoveEntryError result (allocator_of self.old)
             (allocator_of self.new) }
     {
         if self.allocator.is_failed() {

@@ -1,8 +1,8 @@
 //! The directory in memory, over the sectors that hold it.
-ghost use Rattle.cfb_directory.specs.Entries.{entries_in, AreNoted, IsNoted, SizesFit};
+ghost use Rattle.cfb_directory.specs.Entries.{entries_in, ListsUnusedEntries, IsNoted, SizesFit};
 ghost use Rattle.cfb_directory.specs.Taken.{HasAny, IsTakenAs};
-ghost use Rattle.cfb_fat.specs.Tables.{bytes_of, fat_of, has_failed as allocator_failed, has_failed_here, is_honest, medium_of, sectors_of, version_of, AllRests, HasCauseBelow};
-ghost use Rattle.cfb_medium.specs.Calls.{Extends, HasCauseSince, IsCutOff, IsFaultUnless};
+ghost use Rattle.cfb_fat.specs.Tables.{bytes_of, fat_of, has_failed as allocator_failed, has_failed_here, is_honest, medium_of, sectors_of, version_of, OnlyReadsAllocator, IsJustifiedBySectors};
+ghost use Rattle.cfb_medium.specs.Calls.{Reaches, IsJustifiedSince, IsCutOff, IsFaultOrInvalidInputIf};
 ghost use Rattle.cfb_medium.specs.Versions.{sector_len};
 ghost use Rattle.cfb_medium.specs.declared.error.Error.TheVariants.{Failed, InvalidData};
 ghost use Rattle.cfb_sectors.specs.Sectors.{joined, Chain as IsChain};
@@ -10,11 +10,11 @@ ghost use Rattle.cfb_siblings.specs.Places.{path_of, IsEntryAt};
 ghost use Rattle.cfb_siblings.specs.Reading.{ReadBy};
 ghost use Rattle.cfb_tree.specs.Directory.{entries_of};
 ghost use Rattle.cfb_tree.specs.EntryViews.{entry_in};
-ghost use Rattle.cfb_tree.specs.LetterViews.{letters_of};
-ghost use Rattle.cfb_tree.specs.Objects.{object_at, HoldsTree};
+ghost use Rattle.cfb_tree.specs.CaseTableViews.{case_table_of};
+ghost use Rattle.cfb_tree.specs.Objects.{object_at, EntriesHoldTree};
 ghost use Rattle.cfb_tree.specs.Tree.{Tree};
 ghost use Rattle.cfb_tree.specs.Entries.{HasSize};
-ghost use Rattle.cfb_sectors.specs.Held.{LeavesOldOrBytes};
+ghost use Rattle.cfb_sectors.specs.Held.{CrashLeavesOldOrBytes};
 ghost use Rattle.std.specs.Prelude.{Bool, false, length, slice_get, slice_set, true, IfErr, IfOk, IsErrOf, IsTrue, List, MatchOption, None, OnErr, OnOk, Some, ℕ, ◌<◌, ◌||◌, ◌≡◌, ◌≤◌, ◌↔◌, ◌⊎◌};
 
 use crate::reading::read_directory;
@@ -32,7 +32,7 @@ pub(crate) struct Entries {
     pub(crate) items: Vec<DirEntry>,
     pub(crate) unused: Vec<u32>,
     ghost some: { 0 < length items.items },
-    ghost noted: { AreNoted unused.items (entries_in items.items) },
+    ghost noted: { ListsUnusedEntries unused.items (entries_in items.items) },
 }
 
 impl Entries {
@@ -57,7 +57,7 @@ pub struct Directory<F: ReadMedium> {
 }
 
 impl<F: ReadMedium> Directory<F> {
-    ghost use Rattle.cfb_directory.specs.Views.{allocator_of, directory_ids, entries_held, IsDirectory, DirectoryRests};
+    ghost use Rattle.cfb_directory.specs.Views.{allocator_of, directory_ids, entries_held, DirectoryMatchesBytes, OnlyReadsDirectory};
 
     /// Reads the directory from the chain of its first sector. `InvalidData` where there is no such chain, or a reader doesn't
     /// take its entries as a tree: entry 0 is no root, an entry below it is no stream or storage or has no name, one stands
@@ -70,23 +70,24 @@ impl<F: ReadMedium> Directory<F> {
         validation: Validation,
         first_sector: u32,
     ) -> Result<Directory<F>, (F, Error)>
-        ensures rests { IfOk result (λ it. AllRests allocator (allocator_of it)) }
+        ensures only_reads { IfOk result (λ it. OnlyReadsAllocator allocator (allocator_of it)) }
         ensures chain { IfOk result (λ it. IsChain (fat_of allocator) first_sector
             (directory_ids it)) }
-        ensures memory { IfOk result (λ it. IsDirectory it) }
+        ensures memory { IfOk result (λ it. DirectoryMatchesBytes it) }
         ensures tree { IfOk result (λ it. (tree : Tree)
-            × IsTakenAs validation (letters_of letters.now) HasSize (entries_held it) tree) }
+            × IsTakenAs validation (case_table_of letters.now) HasSize (entries_held it) tree) }
         ensures sizes { IfOk result (λ it. SizesFit (version_of allocator) (entries_held it)) }
-        ensures refused { IfErr result (λ e. e.1 ≡ InvalidData → IsTrue (is_honest allocator)
+        ensures refused_only_if { IfErr result
+            (λ e. e.1 ≡ InvalidData → IsTrue (is_honest allocator)
             → (ids : List ℕ) → IsChain (fat_of allocator) first_sector ids
-            → (tree : Tree) → IsTakenAs validation (letters_of letters.now) HasAny
+            → (tree : Tree) → IsTakenAs validation (case_table_of letters.now) HasAny
             (entries_of (version_of allocator) (joined (version_of allocator)
             (bytes_of allocator) ids)) tree → ⊥) }
-        ensures fault { IfErr result (λ e. IsFaultUnless ⊥ e.1 ⊎ (e.1 ≡ InvalidData)) }
-        ensures cause { IfErr result (λ e. HasCauseSince F.continues F.failures
+        ensures errors { IfErr result (λ e. IsFaultOrInvalidInputIf ⊥ e.1 ⊎ (e.1 ≡ InvalidData)) }
+        ensures cause { IfErr result (λ e. IsJustifiedSince F.continues F.failures
             (λ m. has_failed_here allocator || F.failed m) (medium_of allocator) e.0 e.1) }
         ensures honest { IfErr result (λ e. F.honest e.0 ≡ F.honest (medium_of allocator)) }
-        ensures continues { IfErr result (λ e. Extends F.continues (medium_of allocator) e.0) }
+        ensures continues { IfErr result (λ e. Reaches F.continues (medium_of allocator) e.0) }
         ensures bytes { IfErr result (λ e. IsTrue (is_honest allocator)
             → F.bytes e.0 ≡ bytes_of allocator) }
     {
@@ -177,10 +178,11 @@ impl<F: ReadMedium> Directory<F> {
     /// there. It goes down the trees of siblings, and takes no memory ([MS-CFB] 2.6.4).
     pub fn stream_id_for_name_chain(&self, letters: &CaseMapper, names: &[&str]) -> Option<u32>
         ensures found { (reads : ℕ → ℕ → List ℕ → Bool) (tree : Tree)
-            → HoldsTree (letters_of letters.now) (ReadBy reads) (entries_held self.now) tree
+            → EntriesHoldTree (case_table_of letters.now) (ReadBy reads)
+            (entries_held self.now) tree
             → MatchOption result
-            (object_at (letters_of letters.now) tree (path_of names.now) ≡ None)
-            (λ id. IsEntryAt (ReadBy reads) (letters_of letters.now) (entries_held self.now) tree
+            (object_at (case_table_of letters.now) tree (path_of names.now) ≡ None)
+            (λ id. IsEntryAt (ReadBy reads) (case_table_of letters.now) (entries_held self.now) tree
             (path_of names.now) id) }
     {
         find_entry(letters, &self.entries.items, names)
@@ -195,7 +197,7 @@ impl<F: ReadMedium> Directory<F> {
 }
 
 impl<F: Medium> Directory<F> {
-    ghost use Rattle.cfb_directory.specs.Views.{allocator_of, DirectoryKeepsMemory, DirectoryRests};
+    ghost use Rattle.cfb_directory.specs.Views.{allocator_of, DirectoryKeepsMemory, OnlyReadsDirectory};
 
     /// Whether a fault in a write or a commit has left it, or the medium, in a state in which every call is refused.
     pub fn has_failed(&self) -> bool
@@ -206,11 +208,12 @@ impl<F: Medium> Directory<F> {
 
     /// Passes on what the medium keeps back, and publishes nothing.
     pub fn flush(&mut self) -> Result<(), Error>
-        ensures rests { DirectoryRests self.old self.new }
-        ensures failed { has_failed_here (allocator_of self.old) ≡ true → IsErrOf result Failed }
-        ensures cause { IfErr result (HasCauseBelow (allocator_of self.old)
+        ensures only_reads { OnlyReadsDirectory self.old self.new }
+        ensures when_failed { has_failed_here (allocator_of self.old) ≡ true
+            → IsErrOf result Failed }
+        ensures cause { IfErr result (IsJustifiedBySectors (allocator_of self.old)
             (allocator_of self.new)) }
-        ensures fault { IfErr result (IsFaultUnless ⊥) }
+        ensures errors { IfErr result (IsFaultOrInvalidInputIf ⊥) }
     {
         self.allocator.flush()
     }
@@ -220,18 +223,18 @@ impl<F: Medium> Directory<F> {
         ensures published { IsTrue (is_honest (allocator_of self.old))
             → OnOk result (F.has_published (medium_of (allocator_of self.new))
             (bytes_of (allocator_of self.old))) }
-        ensures left { IsTrue (is_honest (allocator_of self.old))
-            → LeavesOldOrBytes (sectors_of (allocator_of self.old))
+        ensures crash { IsTrue (is_honest (allocator_of self.old))
+            → CrashLeavesOldOrBytes (sectors_of (allocator_of self.old))
             (sectors_of (allocator_of self.new)) }
         ensures memory { DirectoryKeepsMemory self.old self.new }
         ensures bytes { has_failed_here (allocator_of self.new) ≡ false
             → IsTrue (is_honest (allocator_of self.old))
             → bytes_of (allocator_of self.new) ≡ bytes_of (allocator_of self.old) }
-        ensures live { OnOk result (has_failed_here (allocator_of self.new) ≡ false) }
-        ensures err { OnErr result (has_failed_here (allocator_of self.new) ≡ true) }
-        ensures failed { has_failed_here (allocator_of self.old) ≡ true
-            → IsErrOf result Failed × DirectoryRests self.old self.new }
-        ensures cause { IfErr result (HasCauseBelow (allocator_of self.old)
+        ensures not_failed { OnOk result (has_failed_here (allocator_of self.new) ≡ false) }
+        ensures after_error { OnErr result (has_failed_here (allocator_of self.new) ≡ true) }
+        ensures when_failed { has_failed_here (allocator_of self.old) ≡ true
+            → IsErrOf result Failed × OnlyReadsDirectory self.old self.new }
+        ensures cause { IfErr result (IsJustifiedBySectors (allocator_of self.old)
             (allocator_of self.new)) }
         ensures medium { (F.failures (medium_of (allocator_of self.old))
             ≤ F.failures (medium_of (allocator_of self.new)))
@@ -239,7 +242,7 @@ impl<F: Medium> Directory<F> {
             ≡ F.failed (medium_of (allocator_of self.old))) }
         ensures cut { IfErr result (IsCutOff F.failed F.continues
             (medium_of (allocator_of self.old)) (medium_of (allocator_of self.new))) }
-        ensures fault { IfErr result (IsFaultUnless ⊥) }
+        ensures errors { IfErr result (IsFaultOrInvalidInputIf ⊥) }
     {
         self.allocator.commit()
     }

@@ -1,14 +1,14 @@
 //! Entries in no use, and a directory that takes in more of them ([MS-CFB] 2.6.3).
 ghost use Rattle.cfb_chains.specs.ChainCalls.{IsInvalidOrFull};
-ghost use Rattle.cfb_chains.specs.Owned.{Leaves};
+ghost use Rattle.cfb_chains.specs.Owned.{ChangesAtMost};
 ghost use Rattle.cfb_directory.specs.Changes.{HasDirectory, KeepsEntries, LiesBeside};
-ghost use Rattle.cfb_directory.specs.Entries.{entries_in, AreNoted, HasNoneUnused, IsOneOf};
-ghost use Rattle.cfb_directory.specs.Growth.{count_words, longer, GrowsDirectory, IsCounted, LacksEntries, MayGrow};
-ghost use Rattle.cfb_fat.specs.Calls.{FatAnswers};
+ghost use Rattle.cfb_directory.specs.Entries.{entries_in, ListsUnusedEntries, HasNoneUnused, IsOneOf};
+ghost use Rattle.cfb_directory.specs.Growth.{count_words, longer, GrowsDirectory, HeaderCountsDirectory, LacksEntries, MayGrow};
+ghost use Rattle.cfb_fat.specs.Calls.{FatErrorContract};
 ghost use Rattle.cfb_fat.specs.Seeing.{seen_of};
 ghost use Rattle.cfb_fat.specs.Tables.{bytes_of, has_failed_here, is_honest, orderly_of, version_of};
 ghost use Rattle.cfb_medium.specs.declared.error.Error.TheVariants.{Full, InvalidData, Memory};
-ghost use Rattle.cfb_owned.specs.Chains.{GoesOn};
+ghost use Rattle.cfb_chain_io.specs.ChainEffects.{KeepsFileInvariants};
 ghost use Rattle.cfb_sectors.specs.Sectors.{sector};
 ghost use Rattle.cfb_siblings.specs.Changes.{IsUnused};
 ghost use Rattle.cfb_tree.specs.Directory.{greatest_entry};
@@ -17,9 +17,9 @@ ghost use Rattle.std.specs.Prelude.{false, length, replicate, vec_capacity, vec_
 
 use crate::Directory;
 use crate::directory::Entries;
+use cfb_chain_io::{set_chain_len, write_word};
 use cfb_fat::{Allocator, HeaderWord};
 use cfb_medium::{Error, Medium, Version};
-use cfb_owned::{set_chain_len, write_word};
 use cfb_sectors::{HasSectors, MAX_REGULAR_STREAM_ID, SectorInit};
 use cfb_tree::{DirEntry, ObjType};
 use std::alloc::Global;
@@ -39,8 +39,8 @@ fn is_unused(entries: &[DirEntry], id: u32) -> bool
 
 /// The numbers of the entries in no use, in falling order.
 pub(crate) fn unused_among(alloc: Global, entries: &[DirEntry]) -> Result<Vec<u32>, Error>
-    ensures noted { IfOk result (λ found. AreNoted found.items (entries_in entries.now)) }
-    ensures error { IfErr result (λ e. e ≡ Memory) }
+    ensures noted { IfOk result (λ found. ListsUnusedEntries found.items (entries_in entries.now)) }
+    ensures errors { IfErr result (λ e. e ≡ Memory) }
 {
     let mut found = Vec::new(alloc);
     let count = entries.len().min(MAX_REGULAR_STREAM_ID as usize + 1) as u32;
@@ -96,7 +96,7 @@ impl Entries {
     pub(crate) fn note(&mut self, id: u32) -> Result<(), Error>
         ensures same { entries_in self.new.items.items ≡ entries_in self.old.items.items }
         ensures noted { OnOk result (IsOneOf self.new.unused.items id) }
-        ensures error { IfErr result (λ e. e ≡ Memory) }
+        ensures errors { IfErr result (λ e. e ≡ Memory) }
     {
         self.unused.push(id)?;
         Ok(())
@@ -109,7 +109,7 @@ impl Entries {
             ≤ vec_capacity self.new.items) }
         ensures unused { OnOk result (vec_len self.new.unused + count
             ≤ vec_capacity self.new.unused) }
-        ensures error { IfErr result (λ e. e ≡ Memory) }
+        ensures errors { IfErr result (λ e. e ≡ Memory) }
     {
         self.items.reserve(count)?;
         self.unused.reserve(count)?;
@@ -133,12 +133,13 @@ impl Entries {
 fn write_count<F: Medium>(allocator: &mut Allocator<F>, count: u32) -> Result<(), Error>
     requires { has_failed_here allocator.old ≡ false }
     ensures counted { OnOk result (IsTrue (is_honest allocator.old)
-        → IsCounted (version_of allocator.old) (bytes_of allocator.new) count) }
+        → HeaderCountsDirectory (version_of allocator.old) (bytes_of allocator.new) count) }
     ensures leaves { OnOk result (IsTrue (is_honest allocator.old)
-        → Leaves (sector (version_of allocator.old)) (count_words (version_of allocator.old)) []
+        → ChangesAtMost (sector (version_of allocator.old))
+        (count_words (version_of allocator.old)) []
         (seen_of allocator.old) (seen_of allocator.new)) }
-    ensures goes_on { GoesOn allocator.old allocator.new }
-    ensures answers { FatAnswers (λ _. ⊥) result allocator.old allocator.new }
+    ensures invariants { KeepsFileInvariants allocator.old allocator.new }
+    ensures error_contract { FatErrorContract (λ _. ⊥) result allocator.old allocator.new }
 {
     match allocator.version() {
         Version::V3 => Ok(()),
@@ -147,7 +148,7 @@ fn write_count<F: Medium>(allocator: &mut Allocator<F>, count: u32) -> Result<()
 }
 
 impl<F: Medium> Directory<F> {
-    ghost use Rattle.cfb_directory.specs.Views.{allocator_of, entries_held, IsDirectory};
+    ghost use Rattle.cfb_directory.specs.Views.{allocator_of, entries_held, DirectoryMatchesBytes};
 
     // Where none is in no use: takes in a sector of such entries, and gives the number of the first of them. `Full` where numbers of entries or of
     // sectors are missing, `InvalidData` where the tables can't be changed or haven't the directory's chain. After an error
@@ -161,13 +162,14 @@ impl<F: Medium> Directory<F> {
         ensures grown { OnOk result (HasDirectory self.old → GrowsDirectory self.old self.new) }
         ensures kept { OnErr result (has_failed_here (allocator_of self.new) ≡ false
             → KeepsEntries self.old self.new) }
-        ensures memory { IsDirectory self.old → LiesBeside self.old → IsDirectory self.new }
-        ensures refused { IsErrOf result InvalidData → HasDirectory self.old
+        ensures memory { DirectoryMatchesBytes self.old → LiesBeside self.old
+            → DirectoryMatchesBytes self.new }
+        ensures refused_only_if { IsErrOf result InvalidData → HasDirectory self.old
             → IsTrue (orderly_of (allocator_of self.old)) → ⊥ }
-        ensures full { IsErrOf result Full → has_failed_here (allocator_of self.new) ≡ false
+        ensures full_only_if { IsErrOf result Full → has_failed_here (allocator_of self.new) ≡ false
             → LacksEntries self.old }
-        ensures goes_on { GoesOn (allocator_of self.old) (allocator_of self.new) }
-        ensures answers { FatAnswers IsInvalidOrFull result (allocator_of self.old)
+        ensures invariants { KeepsFileInvariants (allocator_of self.old) (allocator_of self.new) }
+        ensures error_contract { FatErrorContract IsInvalidOrFull result (allocator_of self.old)
             (allocator_of self.new) }
     {
         if self.allocator.is_failed() {
@@ -207,13 +209,14 @@ impl<F: Medium> Directory<F> {
         ensures grown { OnOk result (HasDirectory self.old → GrowsDirectory self.old self.new) }
         ensures kept { OnErr result (has_failed_here (allocator_of self.new) ≡ false
             → KeepsEntries self.old self.new) }
-        ensures memory { IsDirectory self.old → LiesBeside self.old → IsDirectory self.new }
-        ensures refused { IsErrOf result InvalidData → HasDirectory self.old
+        ensures memory { DirectoryMatchesBytes self.old → LiesBeside self.old
+            → DirectoryMatchesBytes self.new }
+        ensures refused_only_if { IsErrOf result InvalidData → HasDirectory self.old
             → IsTrue (orderly_of (allocator_of self.old)) → ⊥ }
-        ensures full { IsErrOf result Full → has_failed_here (allocator_of self.new) ≡ false
+        ensures full_only_if { IsErrOf result Full → has_failed_here (allocator_of self.new) ≡ false
             → LacksEntries self.old }
-        ensures goes_on { GoesOn (allocator_of self.old) (allocator_of self.new) }
-        ensures answers { FatAnswers IsInvalidOrFull result (allocator_of self.old)
+        ensures invariants { KeepsFileInvariants (allocator_of self.old) (allocator_of self.new) }
+        ensures error_contract { FatErrorContract IsInvalidOrFull result (allocator_of self.old)
             (allocator_of self.new) }
     {
         if self.allocator.is_failed() {

@@ -1,7 +1,7 @@
 //! Directories whose medium goes back to what was published last.
 ghost use Rattle.cfb_fat.specs.Tables.{has_failed_here, medium_of};
-ghost use Rattle.cfb_medium.specs.Calls.{HasCauseSince, IsFaultUnless};
-ghost use Rattle.cfb_sectors.specs.RollingBack.{RollsBack};
+ghost use Rattle.cfb_medium.specs.Calls.{IsJustifiedSince, IsFaultOrInvalidInputIf};
+ghost use Rattle.cfb_sectors.specs.RollingBack.{MediumRollsBack};
 ghost use Rattle.std.specs.Prelude.{false, true, IfErr, IfOk, ◌≡◌};
 
 use crate::Directory;
@@ -24,7 +24,7 @@ impl DirectoryHusk {
     /// A directory over a medium of which nothing is known: every call is refused. It takes no memory.
     pub fn over<F: ReadMedium>(self, alloc: Global, medium: F) -> Directory<F>
         ensures medium { medium_of (allocator_of result) ≡ medium }
-        ensures failed { has_failed_here (allocator_of result) ≡ true }
+        ensures when_failed { has_failed_here (allocator_of result) ≡ true }
     {
         let DirectoryHusk { links, entries } = self;
         Directory {
@@ -36,18 +36,19 @@ impl DirectoryHusk {
 }
 
 impl<F: Medium> Directory<F> {
-    ghost use Rattle.cfb_directory.specs.Views.{allocator_of, DirectoryRests};
+    ghost use Rattle.cfb_directory.specs.Views.{allocator_of, OnlyReadsDirectory};
 
     /// The medium, taken back to the bytes that were published last, and the husk of the directory, also where it has failed.
     /// A refusal gives the directory as it was: `InvalidInput` of a medium that doesn't survive a stop, `Failed` of one that
     /// has failed, `Memory` and `Device`.
     pub fn roll_back(self) -> Result<(F, DirectoryHusk), (Directory<F>, Error)>
-        ensures rolled { IfOk result (λ it. RollsBack F.honest F.bytes F.continues F.has_published
+        ensures rolled { IfOk result
+            (λ it. MediumRollsBack F.honest F.bytes F.continues F.has_published
             (medium_of (allocator_of self)) it.0) }
-        ensures rests { IfErr result (λ e. DirectoryRests self e.0) }
-        ensures cause { IfErr result (λ e. HasCauseSince F.continues F.failures F.failed
+        ensures only_reads { IfErr result (λ e. OnlyReadsDirectory self e.0) }
+        ensures cause { IfErr result (λ e. IsJustifiedSince F.continues F.failures F.failed
             (medium_of (allocator_of self)) (medium_of (allocator_of e.0)) e.1) }
-        ensures fault { IfErr result (λ e. IsFaultUnless (F.survives ≡ false) e.1) }
+        ensures errors { IfErr result (λ e. IsFaultOrInvalidInputIf (F.survives ≡ false) e.1) }
     {
         let Directory {
             allocator,

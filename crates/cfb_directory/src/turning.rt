@@ -5,15 +5,15 @@ ghost use Rattle.cfb_directory.specs.Children.{HoldsChild};
 ghost use Rattle.cfb_directory.specs.Entries.{SizesFit};
 ghost use Rattle.cfb_directory.specs.Turning.{HasTurning, HoldChild, HoldOn, SetsLinks};
 ghost use Rattle.cfb_directory.specs.Views.{allocator_of, entries_held};
-ghost use Rattle.cfb_fat.specs.Calls.{FatAnswers};
+ghost use Rattle.cfb_fat.specs.Calls.{FatErrorContract};
 ghost use Rattle.cfb_fat.specs.Tables.{has_failed_here, version_of};
 ghost use Rattle.cfb_medium.specs.declared.error.Error.TheVariants.{InvalidData};
-ghost use Rattle.cfb_owned.specs.Chains.{GoesOn};
+ghost use Rattle.cfb_chain_io.specs.ChainEffects.{KeepsFileInvariants};
 ghost use Rattle.cfb_siblings.specs.Links.{holder, relinked};
 ghost use Rattle.cfb_siblings.specs.Places.{HasEntry};
 ghost use Rattle.cfb_siblings.specs.Rotations.{rotated};
-ghost use Rattle.cfb_tree.specs.LetterViews.{letters_of};
-ghost use Rattle.cfb_tree.specs.Names.{Letters};
+ghost use Rattle.cfb_tree.specs.CaseTableViews.{case_table_of};
+ghost use Rattle.cfb_tree.specs.Names.{CaseTable};
 ghost use Rattle.cfb_tree.specs.Paths.{Path};
 ghost use Rattle.cfb_tree.specs.Tree.{Tree};
 ghost use Rattle.std.specs.Prelude.{false, true, Bool, IfOk, IsErrOf, List, OnErr, OnOk, ℕ, ◌≡◌};
@@ -29,12 +29,12 @@ impl<F: Medium> Directory<F> {
         ensures set { OnOk result (entries_held self.new
             ≡ relinked it.link it.target (entries_held self.old)) }
         ensures links { OnOk result (SetsLinks self.old self.new) }
-        ensures refused { IsErrOf result InvalidData → HasDirectory self.old
+        ensures refused_only_if { IsErrOf result InvalidData → HasDirectory self.old
             → HasEntry (entries_held self.old) (holder it.link)
             → SizesFit (version_of (allocator_of self.old)) (entries_held self.old) → ⊥ }
-        ensures failed { OnErr result (has_failed_here (allocator_of self.new) ≡ true) }
-        ensures goes_on { GoesOn (allocator_of self.old) (allocator_of self.new) }
-        ensures answers { FatAnswers IsInvalid result (allocator_of self.old)
+        ensures when_failed { OnErr result (has_failed_here (allocator_of self.new) ≡ true) }
+        ensures invariants { KeepsFileInvariants (allocator_of self.old) (allocator_of self.new) }
+        ensures error_contract { FatErrorContract IsInvalid result (allocator_of self.old)
             (allocator_of self.new) }
     {
         if let Err(error) = self.write_link(it.link, it.target) {
@@ -49,12 +49,12 @@ impl<F: Medium> Directory<F> {
         ensures set { OnOk result (entries_held self.new
             ≡ rotated rotation (entries_held self.old)) }
         ensures links { OnOk result (SetsLinks self.old self.new) }
-        ensures refused { IsErrOf result InvalidData → HasDirectory self.old
+        ensures refused_only_if { IsErrOf result InvalidData → HasDirectory self.old
             → HasTurning (entries_held self.old) rotation
             → SizesFit (version_of (allocator_of self.old)) (entries_held self.old) → ⊥ }
-        ensures failed { OnErr result (has_failed_here (allocator_of self.new) ≡ true) }
-        ensures goes_on { GoesOn (allocator_of self.old) (allocator_of self.new) }
-        ensures answers { FatAnswers IsInvalid result (allocator_of self.old)
+        ensures when_failed { OnErr result (has_failed_here (allocator_of self.new) ≡ true) }
+        ensures invariants { KeepsFileInvariants (allocator_of self.old) (allocator_of self.new) }
+        ensures error_contract { FatErrorContract IsInvalid result (allocator_of self.old)
             (allocator_of self.new) }
     {
         if let Err(error) = self.set_link(rotation.inner) {
@@ -76,14 +76,14 @@ impl<F: Medium> Directory<F> {
         id: u32,
     ) -> Result<(), Error>
         requires { has_failed_here (allocator_of self.old) ≡ false }
-        ensures holds { OnOk result (HoldOn (letters_of letters.now) (entries_held self.old)
+        ensures holds { OnOk result (HoldOn (case_table_of letters.now) (entries_held self.old)
             (entries_held self.new) parent) }
         ensures links { OnOk result (SetsLinks self.old self.new) }
-        ensures refused { IsErrOf result InvalidData → HasDirectory self.old
+        ensures refused_only_if { IsErrOf result InvalidData → HasDirectory self.old
             → SizesFit (version_of (allocator_of self.old)) (entries_held self.old) → ⊥ }
-        ensures failed { OnErr result (has_failed_here (allocator_of self.new) ≡ true) }
-        ensures goes_on { GoesOn (allocator_of self.old) (allocator_of self.new) }
-        ensures answers { FatAnswers IsInvalid result (allocator_of self.old)
+        ensures when_failed { OnErr result (has_failed_here (allocator_of self.new) ≡ true) }
+        ensures invariants { KeepsFileInvariants (allocator_of self.old) (allocator_of self.new) }
+        ensures error_contract { FatErrorContract IsInvalid result (allocator_of self.old)
             (allocator_of self.new) }
     {
         let mut link = link;
@@ -108,15 +108,15 @@ impl<F: Medium> Directory<F> {
         ensures holds { IfOk result (λ now. HoldChild (entries_held self.old)
             (entries_held self.new) link now id) }
         ensures links { OnOk result (SetsLinks self.old self.new) }
-        ensures refused { IsErrOf result InvalidData → (letters : Letters)
+        ensures refused_only_if { IsErrOf result InvalidData → (letters : CaseTable)
             (reads : ℕ → ℕ → List ℕ → Bool) (tree : Tree) (path : Path) (parent : ℕ)
             (name : List ℕ)
             → HoldsChild letters reads (entries_held self.old) tree path parent name link id
             → HasDirectory self.old
             → SizesFit (version_of (allocator_of self.old)) (entries_held self.old) → ⊥ }
-        ensures failed { OnErr result (has_failed_here (allocator_of self.new) ≡ true) }
-        ensures goes_on { GoesOn (allocator_of self.old) (allocator_of self.new) }
-        ensures answers { FatAnswers IsInvalid result (allocator_of self.old)
+        ensures when_failed { OnErr result (has_failed_here (allocator_of self.new) ≡ true) }
+        ensures invariants { KeepsFileInvariants (allocator_of self.old) (allocator_of self.new) }
+        ensures error_contract { FatErrorContract IsInvalid result (allocator_of self.old)
             (allocator_of self.new) }
     {
         let mut link = link;

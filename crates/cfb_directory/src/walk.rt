@@ -6,7 +6,7 @@ ghost use Rattle.cfb_medium.specs.declared.error.Error.TheVariants.{Memory};
 ghost use Rattle.cfb_tree.specs.Directory.{HasName};
 ghost use Rattle.cfb_tree.specs.Entries.{IsBlackAt, HasSize};
 ghost use Rattle.cfb_tree.specs.EntryViews.{color_of, entry_in, kind_of};
-ghost use Rattle.cfb_tree.specs.LetterViews.{letters_of};
+ghost use Rattle.cfb_tree.specs.CaseTableViews.{case_table_of};
 ghost use Rattle.cfb_tree.specs.Tree.{Tree};
 ghost use Rattle.std.specs.Prelude.{chars, false, string_bytes, IfErr, IfNone, IfOk, IfSome, IsTrue, List, OnOk, ℕ, ◌++◌, ◌≡◌, ◌↔◌};
 
@@ -30,7 +30,7 @@ fn name_of(alloc: Global, entry: &DirEntry) -> Result<Option<String>, Error>
         (chars (string_bytes name)))) }
     ensures none { IfOk result (λ name. IfNone name ((name : List ℕ)
         → HasName (entry_in entry.now) name → ⊥)) }
-    ensures error { IfErr result (λ e. e ≡ Memory) }
+    ensures errors { IfErr result (λ e. e ≡ Memory) }
 {
     match entry.name(alloc) {
         Ok(name) => Ok(Some(name)),
@@ -48,8 +48,8 @@ fn precedes(
     other: u32,
 ) -> Result<bool, Error>
     ensures order { IfOk result (λ is. IsTrue is
-        ↔ Precedes (letters_of letters.now) (entries_in entries.now) one other) }
-    ensures error { IfErr result (λ e. e ≡ Memory) }
+        ↔ Precedes (case_table_of letters.now) (entries_in entries.now) one other) }
+    ensures errors { IfErr result (λ e. e ≡ Memory) }
 {
     let Some(first) = entries.get(one as usize) else {
         return Ok(false);
@@ -111,8 +111,8 @@ fn is_behind(
     id: u32,
 ) -> Result<bool, Error>
     ensures order { IfOk result (λ is. IsTrue is
-        ↔ IsBehind (letters_of letters.now) (entries_in entries.now) low id) }
-    ensures error { IfErr result (λ e. e ≡ Memory) }
+        ↔ IsBehind (case_table_of letters.now) (entries_in entries.now) low id) }
+    ensures errors { IfErr result (λ e. e ≡ Memory) }
 {
     match low {
         Some(low) => precedes(alloc, letters, entries, low, id),
@@ -129,8 +129,8 @@ fn is_ahead(
     id: u32,
 ) -> Result<bool, Error>
     ensures order { IfOk result (λ is. IsTrue is
-        ↔ IsAhead (letters_of letters.now) (entries_in entries.now) high id) }
-    ensures error { IfErr result (λ e. e ≡ Memory) }
+        ↔ IsAhead (case_table_of letters.now) (entries_in entries.now) high id) }
+    ensures errors { IfErr result (λ e. e ≡ Memory) }
 {
     match high {
         Some(high) => precedes(alloc, letters, entries, id, high),
@@ -147,9 +147,9 @@ fn is_fit(
     link: Link,
 ) -> Result<bool, Error>
     ensures fit { IfOk result (λ is. IsTrue is
-        ↔ IsFit validation (letters_of letters.now) (entries_in entries.now) link.low link.high
+        ↔ IsFit validation (case_table_of letters.now) (entries_in entries.now) link.low link.high
         link.at) }
-    ensures error { IfErr result (λ e. e ≡ Memory) }
+    ensures errors { IfErr result (λ e. e ≡ Memory) }
 {
     if link.at > MAX_REGULAR_STREAM_ID {
         return Ok(false);
@@ -194,7 +194,7 @@ fn child_at(entry: &DirEntry) -> u32
 fn push_links(pending: &mut Vec<Link>, entry: &DirEntry, link: Link) -> Result<(), Error>
     ensures added { OnOk result (pending.new.items
         ≡ pending.old.items ++ links_at (entry_in entry.now) link) }
-    ensures error { IfErr result (λ e. e ≡ Memory) }
+    ensures errors { IfErr result (λ e. e ≡ Memory) }
 {
     let at = Some(link.at);
     pending.push(Link {
@@ -219,7 +219,7 @@ fn push_links(pending: &mut Vec<Link>, entry: &DirEntry, link: Link) -> Result<(
 fn is_named(alloc: Global, entry: &DirEntry, name: &str) -> Result<bool, Error>
     ensures named { IfOk result (λ is. IsTrue is
         ↔ HasName (entry_in entry.now) (chars name.now)) }
-    ensures error { IfErr result (λ e. e ≡ Memory) }
+    ensures errors { IfErr result (λ e. e ≡ Memory) }
 {
     match name_of(alloc, entry)? {
         Some(found) => Ok(found.as_str() == name),
@@ -230,7 +230,7 @@ fn is_named(alloc: Global, entry: &DirEntry, name: &str) -> Result<bool, Error>
 // Whether a reader takes the entry as the root.
 fn is_root(alloc: Global, validation: Validation, entry: &DirEntry) -> Result<bool, Error>
     ensures taken { IfOk result (λ is. IsTrue is ↔ IsTakenAsRoot validation (entry_in entry.now)) }
-    ensures error { IfErr result (λ e. e ≡ Memory) }
+    ensures errors { IfErr result (λ e. e ≡ Memory) }
 {
     if !entry.is_taken_as_root(validation) {
         return Ok(false);
@@ -249,10 +249,11 @@ pub(crate) fn is_tree(
     entries: &[DirEntry],
 ) -> Result<bool, Error>
     ensures taken { IfOk result (λ is. IsTrue is → (tree : Tree)
-        × IsTakenAs validation (letters_of letters.now) HasSize (entries_in entries.now) tree) }
+        × IsTakenAs validation (case_table_of letters.now) HasSize (entries_in entries.now) tree) }
     ensures none { IfOk result (λ is. is ≡ false → (tree : Tree)
-        → IsTakenAs validation (letters_of letters.now) HasAny (entries_in entries.now) tree → ⊥) }
-    ensures error { IfErr result (λ e. e ≡ Memory) }
+        → IsTakenAs validation (case_table_of letters.now) HasAny (entries_in entries.now) tree
+        → ⊥) }
+    ensures errors { IfErr result (λ e. e ≡ Memory) }
 {
     let Some(root) = entries.first() else {
         return Ok(false);

@@ -4,7 +4,7 @@ use Rattle.std.specs.Prelude.{Option, Some, None, slice_get}
 use Rattle.std.specs.Option.{option_map}
 use Rattle.std.proofs.lemmas.List.{map-append}
 use Rattle.cfb_tree.specs.Directory.{Entry, kind_stream}
-use Rattle.cfb_tree.specs.Names.{Letters}
+use Rattle.cfb_tree.specs.Names.{CaseTable}
 use Rattle.cfb_tree.specs.Objects.{Object, child, inside_of, object_at, object_from, root_object}
 use Rattle.cfb_tree.specs.Paths.{Path, back, is_back, is_dropped, led_from, parts_of, path_names}
 use Rattle.cfb_tree.specs.Tree.{Tree}
@@ -14,7 +14,7 @@ use Rattle.cfb_tree.specs.Entries.{HasSize}
 use Rattle.cfb_siblings.specs.Places.{IsStorageAt, LeadsTo, path_to}
 use Rattle.cfb_siblings.proofs.Following.{followed_stream}
 use Rattle.cfb_entries.specs.Parts.{goes_back}
-use Rattle.cfb_entries.specs.Rules.{HoldsSizes, is_stream_object, kind_at, names_in}
+use Rattle.cfb_entries.specs.Rules.{EntriesHoldSizes, is_stream_object, kind_at, names_in}
 use Rattle.cfb_entries.proofs.Turning.{turn_dropped, turn_named, turn_found, taken_back, stays_there, one_more}
 
 -- whether a later part takes the name before these back, as it is told
@@ -80,7 +80,7 @@ module _ (text : List ℕ) (names : Path) (whole : List (List ℕ)) (part : List
 pub one_longer : (names : Path) (part : List ℕ) → path_to (map chars names) (chars part) ≡ map chars (names ++ part ∷ [])
 one_longer names part = sym (map-append chars names (part ∷ []))
 
-module _ (letters : Letters) where
+module _ (letters : CaseTable) where
   none_inside : (path : Path) → object_from letters None path ≡ None
   none_inside [] = refl
   none_inside (name ∷ names) = refl
@@ -98,7 +98,7 @@ module _ (letters : Letters) where
   pub nothing_above : (tree : Tree) (text : List ℕ) → names_in text ≡ None → kind_at letters tree (names_in text) ≡ None
   nothing_above tree text none = ap (kind_at letters tree) none
 
-  module _ (directory : List Entry) (tree : Tree) (h : HoldsSizes letters directory tree) (path : Path) (id : ℕ) (leads : LeadsTo letters directory 0 path id)
+  module _ (directory : List Entry) (tree : Tree) (h : EntriesHoldSizes letters directory tree) (path : Path) (id : ℕ) (leads : LeadsTo letters directory 0 path id)
       (e : Entry) (at : slice_get directory id ≡ Some e) where
     pub stream_has_none : (name : List ℕ) → e.kind ≡ kind_stream → object_at letters tree (path_to path name) ≡ None
     stream_has_none name kind =

@@ -9,15 +9,15 @@ use Rattle.cfb_siblings.specs.Reading.{ReadBy}
 use Rattle.cfb_siblings.proofs.Lists.{distinct_parts}
 use Rattle.cfb_siblings.proofs.Spots.{spot}
 use Rattle.cfb_siblings.proofs.Unused.{tree_reads}
-use Rattle.cfb_tree.specs.Names.{Letters}
+use Rattle.cfb_tree.specs.Names.{CaseTable}
 use Rattle.cfb_tree.specs.Paths.{Path, path_names}
 use Rattle.cfb_tree.specs.Tree.{Tree}
 use Rattle.cfb_tree.specs.Directory.{Entry, Siblings, kind_root}
-use Rattle.cfb_tree.specs.Objects.{Object, inside_of, root_object, object_at, IsObject, HoldsTree}
+use Rattle.cfb_tree.specs.Objects.{Object, inside_of, root_object, object_at, IsObject, EntriesHoldTree}
 use Rattle.cfb_tree.proofs.OneContent.{Some_same}
 use Rattle.cfb_tree.specs.Entries.{HasSize, children_of}
 use Rattle.cfb_entries.specs.Holding.{IsHeldAt}
-use Rattle.cfb_entries.specs.Rules.{HoldsSizes, names_in}
+use Rattle.cfb_entries.specs.Rules.{EntriesHoldSizes, names_in}
 use Rattle.cfb_entries.proofs.Preorder.{inside_held, object_there}
 
 -- sizes as a test
@@ -27,7 +27,7 @@ has_size start size bytes = nat_eq (length bytes) size
 by_size : (e : Entry) (bytes : List ℕ) → HasSize e bytes → ReadBy has_size e bytes
 by_size e bytes is = rw is (grind arith)
 
-pub sizes_read : (letters : Letters) (directory : List Entry) (tree : Tree) → HoldsSizes letters directory tree → HoldsTree letters (ReadBy has_size) directory tree
+pub sizes_read : (letters : CaseTable) (directory : List Entry) (tree : Tree) → EntriesHoldSizes letters directory tree → EntriesHoldTree letters (ReadBy has_size) directory tree
 sizes_read letters directory tree h = tree_reads letters HasSize (ReadBy has_size) directory tree by_size h
 
 past : (x : ℕ) (xs : List ℕ) → IsDistinct nat_eq (x ∷ xs) → IsDistinct nat_eq xs
@@ -35,7 +35,7 @@ unfolding IsDistinct
 past x xs h = h.1
 
 -- the object to which a path leads, with its entry
-pub record Found (letters : Letters) (directory : List Entry) (tree : Tree) (path : Path) (id : ℕ) (e : Entry) : Type 0 where
+pub record Found (letters : CaseTable) (directory : List Entry) (tree : Tree) (path : Path) (id : ℕ) (e : Entry) : Type 0 where
   pub object : Object
   pub at_path : object_at letters tree path ≡ Some object
   pub held : IsHeldAt directory (children_of e) (inside_of object)
@@ -43,7 +43,7 @@ pub record Found (letters : Letters) (directory : List Entry) (tree : Tree) (pat
   pub own : List ℕ
   pub below : path ≢ [] → IsObject directory HasSize id object own
 
-pub found : (letters : Letters) (directory : List Entry) (tree : Tree) → HoldsSizes letters directory tree → (path : Path) (id : ℕ) (e : Entry)
+pub found : (letters : CaseTable) (directory : List Entry) (tree : Tree) → EntriesHoldSizes letters directory tree → (path : Path) (id : ℕ) (e : Entry)
     → LeadsTo letters directory 0 path id → slice_get directory id ≡ Some e → Found letters directory tree path id e
 found letters directory tree h [] id e leads at =
     let is : h.root ≡ e = Some_same (sym h.root_found ∙ ap (slice_get directory) (sym leads) ∙ at) in
@@ -78,7 +78,7 @@ found letters directory tree h (name ∷ names) id e leads at =
     }
 
 -- an entry of the tree is there
-pub entry_there : (letters : Letters) (directory : List Entry) (tree : Tree) → HoldsSizes letters directory tree → (path : Path) (id : ℕ)
+pub entry_there : (letters : CaseTable) (directory : List Entry) (tree : Tree) → EntriesHoldSizes letters directory tree → (path : Path) (id : ℕ)
     → LeadsTo letters directory 0 path id → slice_get directory id ≡ None → ⊥
 entry_there letters directory tree h [] id leads lost =
     let never : Some h.root ≡ None = sym h.root_found ∙ ap (slice_get directory) (sym leads) ∙ lost in absurd (cc)

@@ -8,7 +8,7 @@ use Rattle.std.specs.Ordering.{is_eq, is_lt, ordering_reverse}
 use Rattle.std.specs.declared.cmp.Ordering.{Ordering}
 use Rattle.std.specs.declared.cmp.Ordering.TheVariants.{Equal, Greater, Less}
 use Rattle.cfb_tree.specs.Changes.{added, changed, changed_below, holding, last_of, parent_of, removed, with_changed, with_child, without_child}
-use Rattle.cfb_tree.specs.Names.{Letters, name_cmp}
+use Rattle.cfb_tree.specs.Names.{CaseTable, name_cmp}
 use Rattle.cfb_tree.specs.Objects.{a_storage, a_stream, before, child, is_same_name, name_of, object_at, object_from, root_object, tree_of, Object}
 use Rattle.cfb_tree.specs.Paths.{Path}
 use Rattle.cfb_tree.specs.Tree.{child_names, nothing, storage, stream, Content, IsOrdered, IsOrderedInside, Tree}
@@ -18,7 +18,7 @@ use Rattle.cfb_siblings.proofs.Leading.{object_from_last}
 use Rattle.cfb_siblings.proofs.Lists.{all_map, sorted_around, sorted_parts}
 use Rattle.cfb_siblings.proofs.Naming.{child_here, child_none, others_above}
 use Rattle.cfb_siblings.proofs.Ordering.{IsOrderedObject}
-use Rattle.cfb_entries.specs.Others.{alone, is_front, HasFreePlace, KeepsOthers, NoneStandsAt, StandsAt}
+use Rattle.cfb_entries.specs.Others.{alone, is_front, HasFreePlace, KeepsOthers, NoneStandsAt, IsObjectListed}
 
 eq_turned : (o : Ordering) → is_eq (ordering_reverse o) ≡ is_eq o
 eq_turned Less = refl
@@ -49,7 +49,7 @@ path_is (name ∷ next ∷ names) some =
     ap (λ k. take k (name ∷ next ∷ names) ++ last_of (next ∷ names) ∷ []) one ∙ ap (λ k. name ∷ (take k (next ∷ names) ++ last_of (next ∷ names) ∷ [])) (sym two)
     ∙ ap (λ l. name ∷ l) (path_is (next ∷ names) (omega arith))
 
-module _ (letters : Letters) where
+module _ (letters : CaseTable) where
   same_turned : (a b : List ℕ) → is_same_name letters a b ≡ is_same_name letters b a
   same_turned a b = ap is_eq ((name_cmp_total letters).antisymm a b) ∙ eq_turned (name_cmp letters b a)
 
@@ -336,7 +336,7 @@ module _ (letters : Letters) where
         (sym (child_same (with_child letters object it.inside) (name_of object) on.0 (ap (λ n. is_same_name letters n on.0) (sym it.named) ∙ on.2)) ∙ with_there object it.inside alone_in)
         ∙ ap (λ p. object_from letters (Some object) (drop (length p) other)) up_is
 
-    pub added_stands : StandsAt letters (added letters object path tree) path object
+    pub added_stands : IsObjectListed letters (added letters object path tree) path object
     added_stands = record { there = stands_below path (front_self path) ∙ ap (object_from letters (Some object)) (drop_all path); below = stands_below }
 
     -- LAW: and all others are as before

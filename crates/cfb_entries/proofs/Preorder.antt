@@ -6,7 +6,7 @@ use Rattle.std.proofs.lemmas.Grind.{reverse_onto}
 use Rattle.std.proofs.lemmas.List.{length-map, map-append}
 use Rattle.std.proofs.lemmas.Option.{slice_get_within}
 use Rattle.std.proofs.lemmas.Map.Steps.{length-le_from_distinct_below}
-use Rattle.cfb_meaning.specs.TreeRules.{Shown, shown, all_shown, children_shown}
+use Rattle.cfb_spec.specs.TreeRules.{ShownObject, shown, all_shown, children_shown}
 use Rattle.cfb_tree.specs.Directory.{Entry, HasName, IsStream, IsStorage, Siblings, none, Holds, no_entry, kind_stream, kind_storage}
 use Rattle.cfb_tree.specs.EntryViews.{entry_in}
 use Rattle.cfb_tree.specs.declared.entry.DirEntry.{DirEntry}
@@ -42,7 +42,7 @@ shown_prefix front (a_stream n b x) = rw below_root (path_child front n ∙ sym 
 shown_prefix front (a_storage n f i) = rw below_root (path_child front n ∙ sym (prefix_more front n))
 
 -- an object and what it holds, as it is listed
-abbrev pub object_shown : Path → Object → List Shown
+abbrev pub object_shown : Path → Object → List ShownObject
 object_shown front o = shown (front ++ name_of o ∷ []) o ∷ all_shown (front ++ name_of o ∷ []) (inside_of o)
 
 list_keeps : (L more : List Listed) (k : ℕ) (l : Listed) → slice_get L k ≡ Some l → slice_get (L ++ more) k ≡ Some l
@@ -119,14 +119,14 @@ module _ (directory : List Entry) where
       ∙ listed_as id o own e name (front ++ name_of o ∷ []) is found named (below_root front (name_of o))
 
   -- what is to be listed of these entries, the last one first, and how many entries that are
-  abbrev pub Left : List Listed → List Pending → List Shown → ℕ → Type 0
+  abbrev pub Left : List Listed → List Pending → List ShownObject → ℕ → Type 0
   Left L [] rest count = (rest ≡ []) × (count ≡ 0)
   Left L (p ∷ ps) rest count =
-      (o : Object) × (own : List ℕ) × (front : Path) × (l : Listed) × (sooner : List Shown) × (others : ℕ) × IsObject directory HasSize p.id o own
+      (o : Object) × (own : List ℕ) × (front : Path) × (l : Listed) × (sooner : List ShownObject) × (others : ℕ) × IsObject directory HasSize p.id o own
       × (slice_get L p.parent ≡ Some l) × (prefix_of_listed l ≡ prefix_text front) × Left L ps sooner others
       × (rest ≡ sooner ++ object_shown front o) × (count ≡ others + (1 + length own))
 
-  left_push : (L : List Listed) (ps : List Pending) (rest : List Shown) (count : ℕ) (p : Pending) (o : Object) (own : List ℕ) (front : Path) (l : Listed)
+  left_push : (L : List Listed) (ps : List Pending) (rest : List ShownObject) (count : ℕ) (p : Pending) (o : Object) (own : List ℕ) (front : Path) (l : Listed)
       → IsObject directory HasSize p.id o own → slice_get L p.parent ≡ Some l → prefix_of_listed l ≡ prefix_text front → Left L ps rest count
       → Left L (ps ++ p ∷ []) (object_shown front o ++ rest) (count + (1 + length own))
   left_push L [] rest count p o own front l is got prefix (none_left, zero_left) =
@@ -146,7 +146,7 @@ module _ (directory : List Entry) where
     omega (arith, count_is),
   )
 
-  turn : (ids others : List ℕ) (id parent : ℕ) (ps : List Pending) (shown_rest : List Shown) (n m : ℕ) (L : List Listed) → ids ≡ id ∷ others → m ≡ n
+  turn : (ids others : List ℕ) (id parent : ℕ) (ps : List Pending) (shown_rest : List ShownObject) (n m : ℕ) (L : List Listed) → ids ≡ id ∷ others → m ≡ n
       → Left L ((ps ++ pending_at parent (reverse others)) ++ record { id = id; parent = parent } ∷ []) shown_rest m
       → Left L (ps ++ pending_at parent (reverse ids)) shown_rest n
   turn ids others id parent ps shown_rest n m L is counts h =
@@ -157,7 +157,7 @@ module _ (directory : List Entry) where
       (subst (Left L ((ps ++ pending_at parent (reverse others)) ++ record { id = id; parent = parent } ∷ []) shown_rest) counts h)
 
   -- the children of a storage in the list
-  pub left_more : (c : Content) (ids all : List ℕ) (L : List Listed) (ps : List Pending) (rest : List Shown) (count parent : ℕ) (front : Path) (l : Listed)
+  pub left_more : (c : Content) (ids all : List ℕ) (L : List Listed) (ps : List Pending) (rest : List ShownObject) (count parent : ℕ) (front : Path) (l : Listed)
       → Holds directory HasSize ids c all → slice_get L parent ≡ Some l → prefix_of_listed l ≡ prefix_text front → Left L ps rest count
       → Left L (ps ++ pending_at parent (reverse ids)) (all_shown front c ++ rest) (count + length all)
   left_more nothing ids all L ps rest count parent front l (is, empty) got prefix kept =
@@ -178,12 +178,12 @@ module _ (directory : List Entry) where
       (sym (append_assoc (object_shown front (a_storage n f i)) (all_shown front c) rest)) here)
 
   -- what is to come at the last entry
-  pub record Popped (L : List Listed) (ps : List Pending) (p : Pending) (rest : List Shown) (count : ℕ) : Type 0 where
+  pub record Popped (L : List Listed) (ps : List Pending) (p : Pending) (rest : List ShownObject) (count : ℕ) : Type 0 where
     pub object : Object
     pub own : List ℕ
     pub front : Path
     pub holder : Listed
-    pub later : List Shown
+    pub later : List ShownObject
     pub fewer : ℕ
     pub is_object : IsObject directory HasSize p.id object own
     pub got : slice_get L p.parent ≡ Some holder
@@ -192,7 +192,7 @@ module _ (directory : List Entry) where
     pub rest_is : rest ≡ object_shown front object ++ later
     pub count_is : count ≡ fewer + (1 + length own)
 
-  pub left_pop : (L : List Listed) (ps : List Pending) (p : Pending) (rest : List Shown) (count : ℕ) → Left L (ps ++ p ∷ []) rest count → Popped L ps p rest count
+  pub left_pop : (L : List Listed) (ps : List Pending) (p : Pending) (rest : List ShownObject) (count : ℕ) → Left L (ps ++ p ∷ []) rest count → Popped L ps p rest count
   left_pop L [] p rest count (o, own, front, l, sooner, others, is, got, prefix, (none_left, zero_left), rest_is, count_is) = record {
     object = o;
     own = own;
@@ -224,14 +224,14 @@ module _ (directory : List Entry) where
         count_is = omega (arith, count_is, it.count_is);
       }
 
-  left_longer : (L : List Listed) (x : Listed) (ps : List Pending) (rest : List Shown) (count : ℕ) → Left L ps rest count → Left (L ++ x ∷ []) ps rest count
+  left_longer : (L : List Listed) (x : Listed) (ps : List Pending) (rest : List ShownObject) (count : ℕ) → Left L ps rest count → Left (L ++ x ∷ []) ps rest count
   left_longer L x [] rest count h = h
   left_longer L x (p ∷ ps) rest count (o, own, front, l, sooner, others, is, got, prefix, below, rest_is, count_is) =
       (o, own, front, l, sooner, others, is, list_keeps L (x ∷ []) p.parent l got, prefix, left_longer L x ps sooner others below, rest_is, count_is)
 
   -- how far the walk has come: what is listed, and what is to come, are the whole
   pub record Walked (L : List Listed) (ps : List Pending) (whole : List Listed) : Type 0 where
-    pub rest : List Shown
+    pub rest : List ShownObject
     pub count : ℕ
     pub kept : Left L ps rest count
     pub whole_is : L ++ map listed rest ≡ whole

@@ -4,10 +4,10 @@ use Rattle.std.specs.Prelude.{slice_get, Some, None, Result, IfOk, IfErr}
 use Rattle.std.specs.Borrow.{Bor}
 use Rattle.std.proofs.lemmas.List.{length-map, take-map}
 use Rattle.cfb_siblings.specs.Places.{path_of}
-use Rattle.cfb_meaning.specs.TreeRules.{refused, entries, an_entry, Call, tree_step, entry, open_read_stream, read_storage, walk_storage, shown, all_shown, children_shown, stored_path, parent_of}
+use Rattle.cfb_spec.specs.TreeRules.{refused, entries, an_entry, Call, tree_step, entry, open_read_stream, read_storage, walk_storage, shown, all_shown, children_shown, stored_path, parent_of}
 use Rattle.cfb_medium.specs.declared.error.Error.{Error}
 use Rattle.cfb_medium.specs.declared.error.Error.TheVariants.{InvalidInput, Memory, NotFound}
-use Rattle.cfb_tree.specs.Names.{Letters}
+use Rattle.cfb_tree.specs.Names.{CaseTable}
 use Rattle.cfb_tree.specs.Paths.{Path}
 use Rattle.cfb_tree.specs.Tree.{Facts, Content, Tree}
 use Rattle.cfb_tree.specs.Directory.{Entry, HasName, kind_stream, kind_storage}
@@ -29,7 +29,7 @@ pub ok_case : {A E : Type 0} (P P' : A → Type 0) (r : Result A E) → ((x : A)
 ok_case P P' (Ok x) good p = good x p
 ok_case P P' (Err e) good p = tt
 
-module _ (letters : Letters) (tree : Tree) where
+module _ (letters : CaseTable) (tree : Tree) where
   -- why no entry was found
   abbrev pub IsLost : List ℕ → Error → Type 0
   IsLost text e = (e ≡ Memory) ⊎ ((e ≡ InvalidInput) × (names_in text ≡ None))
@@ -157,7 +157,7 @@ some_names (name ∷ names) some = λ none_there. absurd (cc)
 pub parents_of : (names : List (Bor (List ℕ))) (n : ℕ) → n ≡ length names - 1 → path_of (take n names) ≡ parent_of (path_of names)
 parents_of names n is = sym (take-map (λ name. chars name.now) n names) ∙ ap (λ k. take k (path_of names)) (is ∙ ap (λ k. k - 1) (sym (simp length-map refl)))
 
-module _ (letters : Letters) (tree : Tree) (directory : List Entry) (names : List (Bor (List ℕ))) (id : ℕ) (e : Entry) (at : slice_get directory id ≡ Some e)
+module _ (letters : CaseTable) (tree : Tree) (directory : List Entry) (names : List (Bor (List ℕ))) (id : ℕ) (e : Entry) (at : slice_get directory id ≡ Some e)
     (it : Found letters directory tree (path_of names) id e) where
   -- what is told of the first of a listing by the names that lead to it
   pub top_told : (x : Listed) (ns : List (Bor (List ℕ))) → ns ≡ names → (length ns ≡ 0 → x ≡ root_listed e.facts)
@@ -179,7 +179,7 @@ module _ (letters : Letters) (tree : Tree) (directory : List Entry) (names : Lis
 pub not_empty : (n m : ℕ) (b : Bool) → b ≡ (n == 0) → b ≡ false → n ≡ m → 0 < m
 not_empty n m b test isnt same = grind arith
 
-module _ (letters : Letters) (tree : Tree) (directory : List Entry) (path : Path) (id : ℕ) (e : Entry) (at : slice_get directory id ≡ Some e)
+module _ (letters : CaseTable) (tree : Tree) (directory : List Entry) (path : Path) (id : ℕ) (e : Entry) (at : slice_get directory id ≡ Some e)
     (it : Found letters directory tree path id e) where
   -- what is at the path
   pub kind_found : (text : List ℕ) → names_in text ≡ Some path → Some (e.kind == kind_stream) ≡ kind_at letters tree (names_in text)

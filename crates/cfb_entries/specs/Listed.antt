@@ -1,7 +1,7 @@
 -- What listings in memory show.
 use Rattle.std.specs.Prelude.{◌==◌, ℕ, Bool, true, false, List, [], ◌∷◌, if◌then◌else◌, chars, codes, string_bytes}
 use Rattle.std.specs.List.{flat_map}
-use Rattle.cfb_meaning.specs.TreeRules.{Shown}
+use Rattle.cfb_spec.specs.TreeRules.{ShownObject}
 use Rattle.cfb_medium.specs.Times.{units_of}
 use Rattle.cfb_tree.specs.Changes.{no_facts}
 use Rattle.cfb_tree.specs.Directory.{Entry, kind_stream}
@@ -26,7 +26,7 @@ is_root_path [] = true
 is_root_path (name ∷ names) = false
 
 -- an object that is shown, with its path as text
-abbrev pub listed : Shown → Listed
+abbrev pub listed : ShownObject → Listed
 listed s = record { path = path_text s.path; name = s.name; is_root = is_root_path s.path; is_storage = s.is_storage; len = s.len; facts = s.facts }
 
 -- each name of a path behind a slash: what stands in front of the slash of a child's name

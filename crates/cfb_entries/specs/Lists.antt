@@ -1,7 +1,7 @@
 -- What listings give.
 use Rattle.std.specs.Prelude.{◌≡◌, List, map, ◌⊎◌, Result, IfOk, IfErr}
 use Rattle.std.specs.Vec.Iter.{into_iter_items}
-use Rattle.cfb_meaning.specs.TreeRules.{Answer, entries, refused, Shown}
+use Rattle.cfb_spec.specs.TreeRules.{Answer, entries, refused, ShownObject}
 use Rattle.cfb_medium.specs.declared.error.Error.{Error}
 use Rattle.cfb_medium.specs.declared.error.Error.TheVariants.{Memory}
 use Rattle.cfb_entries.specs.Listed.{listed, listed_in}
@@ -13,7 +13,7 @@ unfoldable pub entries_left : Entries → List Entry
 entries_left it = into_iter_items it.left
 
 -- the answer is these objects in this order, or this refusal; or memory is missing
-abbrev pub TellsEntries : Answer → Result Entries Error → Type 0
-TellsEntries answer result =
-    IfOk result (λ it. (all : List Shown) × (answer ≡ entries all) × (map listed_in (entries_left it) ≡ map listed all))
+abbrev pub ReturnsEntries : Answer → Result Entries Error → Type 0
+ReturnsEntries answer result =
+    IfOk result (λ it. (all : List ShownObject) × (answer ≡ entries all) × (map listed_in (entries_left it) ≡ map listed all))
     × IfErr result (λ e. (e ≡ Memory) ⊎ (answer ≡ refused e))

@@ -39,7 +39,7 @@ pub(crate) fn is_stream(entry: &DirEntry) -> bool
 fn child_path(alloc: Global, prefix: &str, name: &str) -> Result<String, Error>
     ensures path { IfOk result (λ path. chars (string_bytes path)
         ≡ chars prefix.now ++ 47 ∷ chars name.now) }
-    ensures error { IfErr result (λ e. e ≡ Memory) }
+    ensures errors { IfErr result (λ e. e ≡ Memory) }
 {
     let mut path = String::from_str(alloc, prefix)?;
     path.push('/')?;
@@ -85,7 +85,7 @@ impl Entry {
     // The root, whose name isn't that of its entry. The one error is `Memory`.
     pub(crate) fn root(alloc: Global, entry: &DirEntry) -> Result<Entry, Error>
         ensures listed { IfOk result (λ it. listed_in it ≡ root_listed (entry_in entry.now).facts) }
-        ensures error { IfErr result (λ e. e ≡ Memory) }
+        ensures errors { IfErr result (λ e. e ≡ Memory) }
     {
         let name = String::from_str(alloc, ROOT_DIR_NAME)?;
         let path = String::from_str(alloc, "/")?;
@@ -96,7 +96,7 @@ impl Entry {
     pub(crate) fn at(alloc: Global, entry: &DirEntry, path: String) -> Result<Entry, Error>
         ensures listed { IfOk result (λ it. (name : List ℕ) × HasName (entry_in entry.now) name
             × (listed_in it ≡ listed_at (entry_in entry.now) (chars (string_bytes path)) name)) }
-        ensures error { IfErr result (λ e. (e ≡ Memory) ⊎ ((e ≡ InvalidData)
+        ensures errors { IfErr result (λ e. (e ≡ Memory) ⊎ ((e ≡ InvalidData)
             × ((name : List ℕ) → HasName (entry_in entry.now) name → ⊥))) }
     {
         let name = entry.name(alloc)?;
@@ -112,7 +112,7 @@ impl Entry {
         ensures listed { IfOk result (λ it. (name : List ℕ) × HasName (entry_in entry.now) name
             × (listed_in it ≡ listed_at (entry_in entry.now)
             (chars prefix.now ++ 47 ∷ name) name)) }
-        ensures error { IfErr result (λ e. (e ≡ Memory) ⊎ ((e ≡ InvalidData)
+        ensures errors { IfErr result (λ e. (e ≡ Memory) ⊎ ((e ≡ InvalidData)
             × ((name : List ℕ) → HasName (entry_in entry.now) name → ⊥))) }
     {
         let name = entry.name(alloc)?;

@@ -1,9 +1,9 @@
 //! Entries by the text of a path.
-ghost use Rattle.cfb_entries.specs.Rules.{names_in, HoldsSizes, IsEntryError, IsFoundAt};
+ghost use Rattle.cfb_entries.specs.Rules.{names_in, EntriesHoldSizes, IsEntryError, IsFoundAt};
 ghost use Rattle.cfb_medium.specs.declared.error.Error.TheVariants.{InvalidInput, Memory, NotFound};
 ghost use Rattle.cfb_siblings.specs.Places.{path_of};
 ghost use Rattle.cfb_tree.specs.EntryViews.{entry_in};
-ghost use Rattle.cfb_tree.specs.LetterViews.{letters_of};
+ghost use Rattle.cfb_tree.specs.CaseTableViews.{case_table_of};
 ghost use Rattle.cfb_tree.specs.Objects.{object_at};
 ghost use Rattle.cfb_tree.specs.Paths.{Path};
 ghost use Rattle.cfb_tree.specs.Tree.{Tree};
@@ -23,15 +23,16 @@ pub fn find_by_path<'a, 'b>(
     path: &'a str,
 ) -> Result<(Vec<&'a str>, &'b DirEntry), Error>
     ensures found { (tree : Tree)
-        → HoldsSizes (letters_of letters.now) (map entry_in entries.now) tree
-        → IfOk result (λ it. IsFoundAt (letters_of letters.now) (map entry_in entries.now) path.now
+        → EntriesHoldSizes (case_table_of letters.now) (map entry_in entries.now) tree
+        → IfOk result
+        (λ it. IsFoundAt (case_table_of letters.now) (map entry_in entries.now) path.now
         (path_of it.0.items) (entry_in it.1.now)) }
-    ensures refused { (tree : Tree)
-        → HoldsSizes (letters_of letters.now) (map entry_in entries.now) tree
+    ensures refused_only_if { (tree : Tree)
+        → EntriesHoldSizes (case_table_of letters.now) (map entry_in entries.now) tree
         → IfErr result (λ e. (e ≡ Memory) ⊎ ((e ≡ InvalidInput) × (names_in path.now ≡ None))
         ⊎ ((e ≡ NotFound) × (names : Path) × (names_in path.now ≡ Some names)
-        × (object_at (letters_of letters.now) tree names ≡ None))) }
-    ensures error { IfErr result IsEntryError }
+        × (object_at (case_table_of letters.now) tree names ≡ None))) }
+    ensures errors { IfErr result IsEntryError }
 {
     let names = match name_chain_from_path(alloc, path) {
         Ok(names) => names,

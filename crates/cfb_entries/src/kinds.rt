@@ -1,8 +1,8 @@
 //! What is at a path, without memory.
-ghost use Rattle.cfb_entries.specs.Rules.{kind_at, names_in, HoldsSizes};
+ghost use Rattle.cfb_entries.specs.Rules.{kind_at, names_in, EntriesHoldSizes};
 ghost use Rattle.cfb_siblings.specs.Places.{path_to, LeadsTo};
 ghost use Rattle.cfb_tree.specs.EntryViews.{entry_in};
-ghost use Rattle.cfb_tree.specs.LetterViews.{letters_of};
+ghost use Rattle.cfb_tree.specs.CaseTableViews.{case_table_of};
 ghost use Rattle.cfb_tree.specs.Objects.{object_at};
 ghost use Rattle.cfb_tree.specs.Paths.{Path};
 ghost use Rattle.cfb_tree.specs.Tree.{Tree};
@@ -16,11 +16,12 @@ use cfb_tree::{CaseMapper, DirEntry};
 // The child of this name of the object to which a path leads; none where that has no such child, as where it is a stream.
 fn child_of(letters: &CaseMapper, entries: &[DirEntry], parent: u32, name: &str) -> Option<u32>
     ensures { (tree : Tree)
-        → HoldsSizes (letters_of letters.now) (map entry_in entries.now) tree
-        → (path : Path) → LeadsTo (letters_of letters.now) (map entry_in entries.now) 0 path parent
+        → EntriesHoldSizes (case_table_of letters.now) (map entry_in entries.now) tree
+        → (path : Path)
+        → LeadsTo (case_table_of letters.now) (map entry_in entries.now) 0 path parent
         → MatchOption result
-        (object_at (letters_of letters.now) tree (path_to path (chars name.now)) ≡ None)
-        (λ id. LeadsTo (letters_of letters.now) (map entry_in entries.now) 0
+        (object_at (case_table_of letters.now) tree (path_to path (chars name.now)) ≡ None)
+        (λ id. LeadsTo (case_table_of letters.now) (map entry_in entries.now) 0
         (path_to path (chars name.now)) id) }
 {
     let Some(entry) = entries.get(parent as usize) else {
@@ -41,11 +42,11 @@ fn child_of(letters: &CaseMapper, entries: &[DirEntry], parent: u32, name: &str)
 // above the root.
 fn id_at(letters: &CaseMapper, entries: &[DirEntry], path: &str) -> Option<u32>
     ensures { (tree : Tree)
-        → HoldsSizes (letters_of letters.now) (map entry_in entries.now) tree
+        → EntriesHoldSizes (case_table_of letters.now) (map entry_in entries.now) tree
         → MatchOption result
-        (kind_at (letters_of letters.now) tree (names_in path.now) ≡ None)
+        (kind_at (case_table_of letters.now) tree (names_in path.now) ≡ None)
         (λ id. (names : Path) × (names_in path.now ≡ Some names)
-        × LeadsTo (letters_of letters.now) (map entry_in entries.now) 0 names id) }
+        × LeadsTo (case_table_of letters.now) (map entry_in entries.now) 0 names id) }
 {
     let mut id = 0;
     let mut turns = true;
@@ -76,8 +77,8 @@ fn id_at(letters: &CaseMapper, entries: &[DirEntry], path: &str) -> Option<u32>
 /// Where `..` stands behind a name that isn't taken back, what is left of the path is read for each such name.
 pub fn is_stream_at(letters: &CaseMapper, entries: &[DirEntry], path: &str) -> Option<bool>
     ensures { (tree : Tree)
-        → HoldsSizes (letters_of letters.now) (map entry_in entries.now) tree
-        → result ≡ kind_at (letters_of letters.now) tree (names_in path.now) }
+        → EntriesHoldSizes (case_table_of letters.now) (map entry_in entries.now) tree
+        → result ≡ kind_at (case_table_of letters.now) tree (names_in path.now) }
 {
     let Some(id) = id_at(letters, entries, path) else {
         return None;

@@ -2,14 +2,14 @@
 #![tactic(auto, unfolding(crate::specs::Lists::entries_left))]
 
 ghost use Rattle.cfb_entries.specs.Listed.{listed_at, listed_in, prefix_text, root_listed};
-ghost use Rattle.cfb_entries.specs.Rules.{answer_at, names_in, HoldsSizes, IsEntryError, TellsEntry};
-ghost use Rattle.cfb_entries.specs.Lists.{entries_left, TellsEntries};
-ghost use Rattle.cfb_meaning.specs.TreeRules.{entry, parent_of, read_storage, walk_storage};
+ghost use Rattle.cfb_entries.specs.Rules.{answer_at, names_in, EntriesHoldSizes, IsEntryError, TellsEntry};
+ghost use Rattle.cfb_entries.specs.Lists.{entries_left, ReturnsEntries};
+ghost use Rattle.cfb_spec.specs.TreeRules.{entry, parent_of, read_storage, walk_storage};
 ghost use Rattle.cfb_medium.specs.declared.error.Error.TheVariants.{Memory};
 ghost use Rattle.cfb_siblings.specs.Places.{path_of};
 ghost use Rattle.cfb_tree.specs.Directory.{HasName};
 ghost use Rattle.cfb_tree.specs.EntryViews.{entry_in};
-ghost use Rattle.cfb_tree.specs.LetterViews.{letters_of};
+ghost use Rattle.cfb_tree.specs.CaseTableViews.{case_table_of};
 ghost use Rattle.cfb_tree.specs.Tree.{Tree};
 ghost use Rattle.std.specs.Iterator.{YieldsFirst, item_count};
 ghost use Rattle.std.specs.Prelude.{chars, length, map, string_bytes, IfErr, IfOk, List, ℕ, ◌++◌, ◌<◌, ◌≡◌, ◌∷◌, ◌⊎◌};
@@ -70,7 +70,7 @@ impl ExactSizeIterator for Entries {
 fn prefix_of(alloc: Global, names: &[&str]) -> Result<String, Error>
     ensures text { IfOk result
         (λ text. chars (string_bytes text) ≡ prefix_text (path_of names.now)) }
-    ensures error { IfErr result (λ e. e ≡ Memory) }
+    ensures errors { IfErr result (λ e. e ≡ Memory) }
 {
     let mut text = String::new(alloc);
     for name in names {
@@ -88,7 +88,7 @@ fn top_of(alloc: Global, entry: &DirEntry, names: &[&str]) -> Result<Entry, Erro
         → (name : List ℕ) × HasName (entry_in entry.now) name × (listed_in it
         ≡ listed_at (entry_in entry.now) (prefix_text (parent_of (path_of names.now)) ++ 47 ∷ name)
         name)) }
-    ensures error { IfErr result (λ e. (e ≡ Memory) ⊎ ((0 < length names.now)
+    ensures errors { IfErr result (λ e. (e ≡ Memory) ⊎ ((0 < length names.now)
         × ((name : List ℕ) → HasName (entry_in entry.now) name → ⊥))) }
     ensures kind { IfErr result IsEntryError }
 {
@@ -108,10 +108,10 @@ pub fn entry_at(
     entries: &[DirEntry],
     path: &str,
 ) -> Result<Entry, Error>
-    ensures told { (tree : Tree)
-        → HoldsSizes (letters_of letters.now) (map entry_in entries.now) tree
-        → TellsEntry (answer_at (letters_of letters.now) tree entry (names_in path.now)) result }
-    ensures error { IfErr result IsEntryError }
+    ensures answer { (tree : Tree)
+        → EntriesHoldSizes (case_table_of letters.now) (map entry_in entries.now) tree
+        → TellsEntry (answer_at (case_table_of letters.now) tree entry (names_in path.now)) result }
+    ensures errors { IfErr result IsEntryError }
 {
     let (names, entry) = match find_by_path(alloc, letters, entries, path) {
         Ok(found) => found,
@@ -133,11 +133,12 @@ pub fn children_at(
     entries: &[DirEntry],
     path: &str,
 ) -> Result<Entries, Error>
-    ensures told { (tree : Tree)
-        → HoldsSizes (letters_of letters.now) (map entry_in entries.now) tree
-        → TellsEntries (answer_at (letters_of letters.now) tree read_storage (names_in path.now))
+    ensures answer { (tree : Tree)
+        → EntriesHoldSizes (case_table_of letters.now) (map entry_in entries.now) tree
+        → ReturnsEntries
+        (answer_at (case_table_of letters.now) tree read_storage (names_in path.now))
         result }
-    ensures error { IfErr result IsEntryError }
+    ensures errors { IfErr result IsEntryError }
 {
     let (names, entry) = match find_by_path(alloc, letters, entries, path) {
         Ok(found) => found,
@@ -162,11 +163,12 @@ pub fn walk_at(
     entries: &[DirEntry],
     path: &str,
 ) -> Result<Entries, Error>
-    ensures told { (tree : Tree)
-        → HoldsSizes (letters_of letters.now) (map entry_in entries.now) tree
-        → TellsEntries (answer_at (letters_of letters.now) tree walk_storage (names_in path.now))
+    ensures answer { (tree : Tree)
+        → EntriesHoldSizes (case_table_of letters.now) (map entry_in entries.now) tree
+        → ReturnsEntries
+        (answer_at (case_table_of letters.now) tree walk_storage (names_in path.now))
         result }
-    ensures error { IfErr result IsEntryError }
+    ensures errors { IfErr result IsEntryError }
 {
     let (names, entry) = match find_by_path(alloc, letters, entries, path) {
         Ok(found) => found,

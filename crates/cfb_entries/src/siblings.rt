@@ -14,12 +14,12 @@ use std::alloc::Global;
 // Goes down to the first of the siblings that hang at a link, and keeps those that it passes: they come after what hangs on
 // their left. `InvalidData` comes only where no siblings hang there.
 fn descend(entries: &[DirEntry], link: u32, above: &mut Vec<u32>) -> Result<(), Error>
-    ensures told { (here rest : List ℕ) → Siblings (map entry_in entries.now) link here
+    ensures answer { (here rest : List ℕ) → Siblings (map entry_in entries.now) link here
         → Above (map entry_in entries.now) above.old.items rest
         → length here + length rest ≤ length entries.now
         → OnOk result (Above (map entry_in entries.now) above.new.items (here ++ rest))
         × IfErr result (λ e. e ≡ Memory) }
-    ensures error { IfErr result IsEntryError }
+    ensures errors { IfErr result IsEntryError }
 {
     let mut at = link;
     'down: while at != NO_STREAM {
@@ -37,10 +37,10 @@ fn descend(entries: &[DirEntry], link: u32, above: &mut Vec<u32>) -> Result<(), 
 
 // The siblings that hang at a link, in their order. `InvalidData` comes only where no siblings hang there.
 pub(crate) fn siblings(alloc: Global, entries: &[DirEntry], link: u32) -> Result<Vec<u32>, Error>
-    ensures told { (all : List ℕ) → Siblings (map entry_in entries.now) link all
+    ensures answer { (all : List ℕ) → Siblings (map entry_in entries.now) link all
         → length all ≤ length entries.now → IfOk result (λ ids. ids.items ≡ all)
         × IfErr result (λ e. e ≡ Memory) }
-    ensures error { IfErr result IsEntryError }
+    ensures errors { IfErr result IsEntryError }
 {
     let mut ids = Vec::new(alloc);
     let mut above = Vec::new(alloc);

@@ -1,10 +1,10 @@
 //! Streams by the text of a path.
-ghost use Rattle.cfb_entries.specs.Rules.{answer_at, names_in, HoldsSizes, IsEntryError, IsFoundAt};
-ghost use Rattle.cfb_meaning.specs.TreeRules.{has_bytes, open_read_stream, refused};
+ghost use Rattle.cfb_entries.specs.Rules.{answer_at, names_in, EntriesHoldSizes, IsEntryError, IsFoundAt};
+ghost use Rattle.cfb_spec.specs.TreeRules.{has_bytes, open_read_stream, refused};
 ghost use Rattle.cfb_medium.specs.declared.error.Error.TheVariants.{Memory};
 ghost use Rattle.cfb_tree.specs.Directory.{kind_stream};
 ghost use Rattle.cfb_tree.specs.EntryViews.{entry_in};
-ghost use Rattle.cfb_tree.specs.LetterViews.{letters_of};
+ghost use Rattle.cfb_tree.specs.CaseTableViews.{case_table_of};
 ghost use Rattle.cfb_tree.specs.Paths.{Path};
 ghost use Rattle.cfb_tree.specs.Tree.{Tree};
 ghost use Rattle.std.specs.Prelude.{length, map, IfErr, IfOk, List, ℕ, ◌≡◌, ◌⊎◌};
@@ -24,20 +24,20 @@ pub fn stream_at<'a>(
     path: &str,
 ) -> Result<&'a DirEntry, Error>
     ensures found { (tree : Tree)
-        → HoldsSizes (letters_of letters.now) (map entry_in entries.now) tree
-        → IfOk result (λ it. (names : Path) × IsFoundAt (letters_of letters.now)
+        → EntriesHoldSizes (case_table_of letters.now) (map entry_in entries.now) tree
+        → IfOk result (λ it. (names : Path) × IsFoundAt (case_table_of letters.now)
         (map entry_in entries.now) path.now names (entry_in it.now)
         × ((entry_in it.now).kind ≡ kind_stream)) }
     ensures answer { (tree : Tree)
-        → HoldsSizes (letters_of letters.now) (map entry_in entries.now) tree
-        → IfOk result (λ it. (bytes : List ℕ) × (answer_at (letters_of letters.now) tree
+        → EntriesHoldSizes (case_table_of letters.now) (map entry_in entries.now) tree
+        → IfOk result (λ it. (bytes : List ℕ) × (answer_at (case_table_of letters.now) tree
         open_read_stream (names_in path.now) ≡ has_bytes bytes)
         × (length bytes ≡ (entry_in it.now).size)) }
-    ensures refused { (tree : Tree)
-        → HoldsSizes (letters_of letters.now) (map entry_in entries.now) tree
-        → IfErr result (λ e. (e ≡ Memory) ⊎ (answer_at (letters_of letters.now) tree
+    ensures refused_only_if { (tree : Tree)
+        → EntriesHoldSizes (case_table_of letters.now) (map entry_in entries.now) tree
+        → IfErr result (λ e. (e ≡ Memory) ⊎ (answer_at (case_table_of letters.now) tree
         open_read_stream (names_in path.now) ≡ refused e)) }
-    ensures error { IfErr result IsEntryError }
+    ensures errors { IfErr result IsEntryError }
 {
     let (_names, entry) = match find_by_path(alloc, letters, entries, path) {
         Ok(found) => found,

@@ -3,7 +3,7 @@ ghost use Rattle.cfb_entries.specs.Listed.{listed, listed_in, prefix_of_listed, 
 ghost use Rattle.cfb_entries.specs.Rules.{IsEntryError};
 ghost use Rattle.cfb_entries.specs.Holding.{IsHeldAt};
 ghost use Rattle.cfb_entries.specs.Walk.{pending_at};
-ghost use Rattle.cfb_meaning.specs.TreeRules.{all_shown, children_shown};
+ghost use Rattle.cfb_spec.specs.TreeRules.{all_shown, children_shown};
 ghost use Rattle.cfb_medium.specs.declared.error.Error.TheVariants.{InvalidData, Memory};
 ghost use Rattle.cfb_tree.specs.EntryViews.{entry_in};
 ghost use Rattle.cfb_tree.specs.Paths.{Path};
@@ -40,7 +40,7 @@ pub(crate) fn children_link(entry: &DirEntry) -> u32
 fn push_entries(pending: &mut Vec<Pending>, mut ids: Vec<u32>, parent: usize) -> Result<(), Error>
     ensures added { OnOk result (pending.new.items
         ≡ pending.old.items ++ pending_at parent (reverse ids.items)) }
-    ensures error { IfErr result (λ e. e ≡ Memory) }
+    ensures errors { IfErr result (λ e. e ≡ Memory) }
 {
     'push: while let Some(id) = ids.pop() {
         pending.push(Pending { id, parent })?;
@@ -56,13 +56,13 @@ pub(crate) fn walk(
     top: Entry,
     link: u32,
 ) -> Result<Vec<Entry>, Error>
-    ensures told { (front : Path) (content : Content)
+    ensures answer { (front : Path) (content : Content)
         → IsHeldAt (map entry_in entries.now) link content
         → prefix_of_listed (listed_in top) ≡ prefix_text front
         → IfOk result (λ list. map listed_in list.items
         ≡ listed_in top ∷ map listed (all_shown front content))
         × IfErr result (λ e. e ≡ Memory) }
-    ensures error { IfErr result IsEntryError }
+    ensures errors { IfErr result IsEntryError }
 {
     let mut list = Vec::new(alloc);
     list.push(top)?;
@@ -102,13 +102,13 @@ pub(crate) fn children(
     prefix: &str,
     link: u32,
 ) -> Result<Vec<Entry>, Error>
-    ensures told { (front : Path) (content : Content)
+    ensures answer { (front : Path) (content : Content)
         → IsHeldAt (map entry_in entries.now) link content
         → chars prefix.now ≡ prefix_text front
         → IfOk result (λ list. map listed_in list.items
         ≡ map listed (children_shown front content))
         × IfErr result (λ e. e ≡ Memory) }
-    ensures error { IfErr result IsEntryError }
+    ensures errors { IfErr result IsEntryError }
 {
     let mut list = Vec::new(alloc);
     let ids = match siblings(alloc, entries, link) {

@@ -9,7 +9,7 @@ use Rattle.cfb_medium.specs.declared.version.Version.{Version}
 use Rattle.cfb_medium.specs.declared.version.Version.TheVariants.{V3, V4}
 use Rattle.cfb_sectors.specs.Sectors.{fat_in, filled_part, sector, sector_start, sectors_in}
 use Rattle.cfb_fat.specs.Listed.{Lists}
-use Rattle.cfb_chains.specs.Changes.{AreOnce, IsNoneOf}
+use Rattle.cfb_chains.specs.Changes.{AreDistinct, IsNotIn}
 use Rattle.cfb_fat.specs.Orderly.{AreBelow}
 use Rattle.cfb_fat.proofs.Entering.{once_behind}
 use Rattle.cfb_fat.proofs.FatEntries.{entry_written, length-fat_in, per, split}
@@ -29,7 +29,7 @@ take_set_end xs k x below =
 
 -- the table in memory is that of the bytes
 pub entry_added : (v : Version) (old mid new fs ds fat : List ℕ) (count index entry holder each : ℕ) → each ≡ per v → holder ≡ get_or fs (index / each) 0 → new ≡ overwritten mid (sector_start v holder + 4 * (index % each)) (to_le_bytes w32 entry)
-    → AreOnce (ds ++ fs) → ((k : ℕ) → k < length fs → sector v mid (get_or fs k 0) ≡ sector v old (get_or fs k 0)) → index ≡ count → index < length fs * per v → entry < 2 ^ 32 → fat ≡ take count (fat_in v old fs)
+    → AreDistinct (ds ++ fs) → ((k : ℕ) → k < length fs → sector v mid (get_or fs k 0) ≡ sector v old (get_or fs k 0)) → index ≡ count → index < length fs * per v → entry < 2 ^ 32 → fat ≡ take count (fat_in v old fs)
     → fat ++ entry ∷ [] ≡ take (count + 1) (fat_in v new fs)
 entry_added v old mid new fs ds fat count index entry holder each is_each is_holder written once same at below small was =
     let parts = split v (length fs) index below in
@@ -55,5 +55,5 @@ listed_before_end v old new ds fs count in_old in_new more below kept =
     listed_kept v old new ds fs in_old in_new more (kept 68 4 (omega (arith, far))) (kept 76 436 (omega (arith, far)))
     (λ k inside. kept (sector_start v (get_or ds k 0)) (sector_len v) (whole_before v (get_or ds k 0) count (below k inside)))
 
-pub none_behind : (count : ℕ) (xs : List ℕ) → AreBelow count xs → IsNoneOf xs count
+pub none_behind : (count : ℕ) (xs : List ℕ) → AreBelow count xs → IsNotIn xs count
 none_behind count xs below k inside same = let less = below k inside in omega (arith, less, same)

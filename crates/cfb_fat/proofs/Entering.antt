@@ -9,13 +9,13 @@ use Rattle.cfb_medium.specs.Versions.{sector_len}
 use Rattle.cfb_medium.specs.declared.version.Version.{Version}
 use Rattle.cfb_medium.specs.declared.version.Version.TheVariants.{V3, V4}
 use Rattle.cfb_sectors.specs.Sectors.{fat_in, filled_part, sector_start}
-use Rattle.cfb_chains.specs.Changes.{AreOnce, DifferAt, IsBeside}
-use Rattle.cfb_fat.specs.Orderly.{named_at_most, AreBelow, IsOrderly}
+use Rattle.cfb_chains.specs.Changes.{AreDistinct, DifferOnlyAt, IsBeside}
+use Rattle.cfb_fat.specs.Orderly.{named_at_most, AreBelow, AreTablesConsistent}
 use Rattle.cfb_fat.proofs.FatEntries.{entries_stay, entry_fits, entry_written, per, split}
 use Rattle.cfb_chains.proofs.Overwriting.{beside}
 
 -- what stands once in both lists does so in the second
-pub once_behind : (ds fs : List ℕ) → AreOnce (ds ++ fs) → AreOnce fs
+pub once_behind : (ds fs : List ℕ) → AreDistinct (ds ++ fs) → AreDistinct fs
 once_behind ds fs once = λ k l k_below l_below same.
     let size = length-append ds fs in
     let at : (m : ℕ) → get_or (ds ++ fs) (length ds + m) 0 ≡ get_or fs m 0 =
@@ -25,7 +25,7 @@ once_behind ds fs once = λ k l k_below l_below same.
 
 -- the table in memory is that of the bytes also after the write
 pub entered : (v w : Version) (b after fs ds fat : List ℕ) (count n index entry holder each : ℕ) → w ≡ v → n ≡ count → each ≡ per v → holder ≡ get_or fs (index / each) 0
-    → after ≡ overwritten b (sector_start v holder + 4 * (index % each)) (to_le_bytes w32 entry) → AreOnce (ds ++ fs) → index < length fat → length fat ≤ count → length fat ≤ length fs * per v
+    → after ≡ overwritten b (sector_start v holder + 4 * (index % each)) (to_le_bytes w32 entry) → AreDistinct (ds ++ fs) → index < length fat → length fat ≤ count → length fat ≤ length fs * per v
     → entry < 2 ^ 32 → fat ≡ take count (fat_in v b fs) → set fat index entry ≡ take n (fat_in w after fs)
 entered v w b after fs ds fat count n index entry holder each same_version same_count is_each is_holder written once inside most whole small was =
     let parts = split v (length fs) index (omega (arith, inside, whole)) in
@@ -38,7 +38,7 @@ entered v w b after fs ds fat count n index entry holder each same_version same_
     ap (λ l. set l index entry) was ∙ sym (take-set-lt count (fat_in v b fs) index entry (omega (arith, inside, most)))
     ∙ ap (take count) (sym now) ∙ ap (λ m. take m (fat_in v after fs)) (sym same_count) ∙ ap (λ u. take n (fat_in u after fs)) (sym same_version)
 
-pub differ_at : (fat : List ℕ) (index entry : ℕ) → DifferAt (index ∷ []) fat (set fat index entry)
+pub differ_at : (fat : List ℕ) (index entry : ℕ) → DifferOnlyAt (index ∷ []) fat (set fat index entry)
 differ_at fat index entry = record {
   size = length-set fat index entry;
   others = λ n none. get_or-set_other fat index n entry 0 (λ same. none 0 (omega arith) (sym same));
@@ -64,7 +64,7 @@ pub index_in : (v : Version) (fat fs : List ℕ) (index each : ℕ) → each ≡
 index_in v fat fs index each is inside whole = subst (λ e. index / e < length fs) (sym is) (split v (length fs) index (omega (arith, inside, whole))).0
 
 -- only lengths matter for the order of the tables
-pub order_stays : (v w : Version) (count n : ℕ) (fat changed fs ds : List ℕ) → w ≡ v → n ≡ count → length changed ≡ length fat → IsOrderly v count fat fs ds → IsOrderly w n changed fs ds
+pub order_stays : (v w : Version) (count n : ℕ) (fat changed fs ds : List ℕ) → w ≡ v → n ≡ count → length changed ≡ length fat → AreTablesConsistent v count fat fs ds → AreTablesConsistent w n changed fs ds
 order_stays v w count n fat changed fs ds version same size h = record {
   once = h.once;
   covered = size ∙ h.covered ∙ sym same;

@@ -5,30 +5,30 @@ use Rattle.std.proofs.Math.ListN.{set}
 use Rattle.std.proofs.lemmas.Bool.Decides.{eqb_tells, leb_tells}
 use Rattle.std.proofs.lemmas.List.{get_or-set_same, get_or-set_other}
 use Rattle.std.proofs.lemmas.Option.{slice_get_within}
-use Rattle.cfb_medium.specs.Calls.{Extends, HasCause}
+use Rattle.cfb_medium.specs.Calls.{Reaches, IsJustifiedError}
 use Rattle.cfb_medium.specs.declared.error.Error.{Error}
 use Rattle.cfb_medium.specs.declared.medium.ReadMedium.{Ghosts}
-use Rattle.cfb_sectors.specs.Held.{HasItsCause, has_failed_here as sectors_failed}
+use Rattle.cfb_sectors.specs.Held.{IsJustifiedByMedium, has_failed_here as sectors_failed}
 use Rattle.cfb_sectors.specs.Sectors.{filled_part, Chain as IsChain}
 use Rattle.cfb_sectors.specs.declared.sectors.Sectors.{Sectors}
 use Rattle.cfb_sectors.proofs.Chains.{chain_from}
 use Rattle.cfb_sectors.proofs.OneChain.{chain_unique}
 use Rattle.cfb_fat.specs.declared.allocator.Allocator.{Allocator}
 use Rattle.cfb_fat.specs.Changing.{ChangesFat}
-use Rattle.cfb_chains.specs.Changes.{DifferAt, IsBeside, IsNoneOf}
+use Rattle.cfb_chains.specs.Changes.{DifferOnlyAt, IsBeside, IsNotIn}
 use Rattle.cfb_fat.specs.Orderly.{AreBelow}
 use Rattle.cfb_fat.specs.Keeping.{ends_rest, told_same}
-use Rattle.cfb_runs.specs.Tables.{entries_of}
-use Rattle.cfb_fat.specs.Tables.{fat_sectors_of, version_of, AllRests}
+use Rattle.cfb_fat_runs.specs.Tables.{entries_of}
+use Rattle.cfb_fat.specs.Tables.{fat_sectors_of, version_of, OnlyReadsAllocator}
 
 pub one_is : (n m j : ℕ) → j < 1 → get_or (n ∷ []) j 0 ≡ m → n ≡ m
 one_is n m zero below is = is
 one_is n m (suc j) below is = absurd (omega arith)
 
-pub none_later : (x : ℕ) (xs : List ℕ) (n : ℕ) → IsNoneOf (x ∷ xs) n → IsNoneOf xs n
+pub none_later : (x : ℕ) (xs : List ℕ) (n : ℕ) → IsNotIn (x ∷ xs) n → IsNotIn xs n
 none_later x xs n none k below same = none (suc k) (omega arith) same
 
-pub differ_none : (ids fat : List ℕ) → DifferAt ids fat fat
+pub differ_none : (ids fat : List ℕ) → DifferOnlyAt ids fat fat
 differ_none ids fat = record { size = refl; others = λ n none. refl }
 
 -- one entry more is set
@@ -49,7 +49,7 @@ chain_inside table start (x ∷ ids) (is, regular, next, found, rest) zero below
 chain_inside table start (x ∷ ids) (is, regular, next, found, rest) (suc k) below = chain_inside table next ids rest k (omega arith)
 
 -- a chain's first sector doesn't come again
-pub not_again : (table : List ℕ) (start : ℕ) (ids : List ℕ) → IsChain table start (start ∷ ids) → IsNoneOf ids start
+pub not_again : (table : List ℕ) (start : ℕ) (ids : List ℕ) → IsChain table start (start ∷ ids) → IsNotIn ids start
 not_again table start ids chain k below same =
     let later = chain_from table start (start ∷ ids) (suc k) 0 (omega arith) chain in
     let equal = chain_unique table start (start ∷ ids) (drop k ids) chain (subst (λ n. IsChain table n (drop k ids)) same later) in
@@ -73,7 +73,7 @@ module _ {F : Type 0} {g : Ghosts F} where
     beside = λ live honest place count apart. refl;
   }
 
-  pub changes_rest : (ids : List ℕ) (a b : Allocator F g) → AllRests a b → ChangesFat ids a b
+  pub changes_rest : (ids : List ℕ) (a b : Allocator F g) → OnlyReadsAllocator a b → ChangesFat ids a b
   changes_rest ids a b h = record {
     honest = h.sectors.honest;
     continues = h.sectors.continues;
@@ -90,7 +90,7 @@ module _ {F : Type 0} {g : Ghosts F} where
     beside = λ live honest place count apart. ap (λ b. filled_part b place count) (h.sectors.bytes honest);
   }
 
-  pub changes_then : (xs ys zs : List ℕ) (a b c : Allocator F g) → ((n : ℕ) → IsNoneOf zs n → IsNoneOf xs n) → ((n : ℕ) → IsNoneOf zs n → IsNoneOf ys n) → ChangesFat xs a b → ChangesFat ys b c → ChangesFat zs a c
+  pub changes_then : (xs ys zs : List ℕ) (a b c : Allocator F g) → ((n : ℕ) → IsNotIn zs n → IsNotIn xs n) → ((n : ℕ) → IsNotIn zs n → IsNotIn ys n) → ChangesFat xs a b → ChangesFat ys b c → ChangesFat zs a c
   changes_then xs ys zs a b c in_x in_y h k = record {
     honest = k.honest ∙ h.honest;
     continues = λ start from. k.continues start (h.continues start from);
@@ -117,5 +117,5 @@ module _ {F : Type 0} {g : Ghosts F} where
       changes_then ids (n ∷ []) ids a b c (λ m none. none) (λ m none j single same. none i below (sym is ∙ one_is n m j single same))
 
   -- an error has its cause also since a state from which calls led on that published nothing
-  pub cause_since : (a b c : Sectors F g) (e : Error) → Extends g.continues a.inner b.inner → sectors_failed b ≡ sectors_failed a → HasItsCause b c e → HasItsCause a c e
-  cause_since a b c e continues failed cause = λ start from. subst (λ f. HasCause g.failures (λ m. f || g.failed m) start c.inner e) failed (cause start (continues start from))
+  pub cause_since : (a b c : Sectors F g) (e : Error) → Reaches g.continues a.inner b.inner → sectors_failed b ≡ sectors_failed a → IsJustifiedByMedium b c e → IsJustifiedByMedium a c e
+  cause_since a b c e continues failed cause = λ start from. subst (λ f. IsJustifiedError g.failures (λ m. f || g.failed m) start c.inner e) failed (cause start (continues start from))

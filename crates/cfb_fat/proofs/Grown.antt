@@ -11,8 +11,8 @@ use Rattle.cfb_sectors.specs.Sectors.{fat_in, free, sector}
 use Rattle.cfb_sectors.specs.declared.initial.SectorInit.TheVariants.{Fat}
 use Rattle.cfb_sectors.specs.declared.sectors.Sectors.{Sectors}
 use Rattle.cfb_fat.specs.Growing.{Appends, IsBesideDifat}
-use Rattle.cfb_chains.specs.Changes.{AreOnce}
-use Rattle.cfb_fat.specs.Orderly.{named_at_most, AreBelow, IsOrderly}
+use Rattle.cfb_chains.specs.Changes.{AreDistinct}
+use Rattle.cfb_fat.specs.Orderly.{named_at_most, AreBelow, AreTablesConsistent}
 use Rattle.cfb_fat.proofs.FatEntries.{length-fat_in, per}
 use Rattle.cfb_fat.proofs.Growth.{below_both, below_more, fat_covers, fat_longer, fat_sectors_stay, once_more}
 
@@ -25,7 +25,7 @@ module _ {F : Type 0} {g : Ghosts F} (a b : Sectors F g) (fat fs ds : List ℕ) 
   pub record Lengthens : Type 0 where
     pub appends : Appends (IsBesideDifat a ds) a b
     pub content : has_failed_here b ≡ false → IsHonest a → sector (version_of a) (bytes_of b) (count_of a) ≡ initial Fat (sector_len (version_of a))
-    pub once : AreOnce (ds ++ fs)
+    pub once : AreDistinct (ds ++ fs)
     pub below_ds : AreBelow (count_of a) ds
     pub below_fs : AreBelow (count_of a) fs
     pub full : length fat ≡ length fs * per (version_of a)
@@ -36,14 +36,14 @@ module _ {F : Type 0} {g : Ghosts F} (a b : Sectors F g) (fat fs ds : List ℕ) 
     pub some : 0 < more
 
   module _ (h : Lengthens) (live : has_failed_here b ≡ false) where
-    pub order_grown : IsOrderly (version_of b) (count_of b) (fat ++ replicate more free) (fs ++ count_of a ∷ []) ds
+    pub order_grown : AreTablesConsistent (version_of b) (count_of b) (fat ++ replicate more free) (fs ++ count_of a ∷ []) ds
     order_grown =
         let count = h.appends.count live in
         let size = length-append fat (replicate more free) in
         let many = length-replicate more free in
         let size_fs = length-append fs (count_of a ∷ []) in
         record {
-          once = subst AreOnce (append_assoc ds fs (count_of a ∷ [])) (once_more (ds ++ fs) (count_of a) h.once (below_both (count_of a) ds fs h.below_ds h.below_fs));
+          once = subst AreDistinct (append_assoc ds fs (count_of a ∷ [])) (once_more (ds ++ fs) (count_of a) h.once (below_both (count_of a) ds fs h.below_ds h.below_fs));
           covered = omega (arith, size, many, h.sum, count);
           some = omega (arith, count);
           there = below_more (count_of a) (count_of b) ds (omega (arith, count)) h.below_ds;

@@ -16,8 +16,8 @@ use Rattle.cfb_medium.specs.declared.version.Version.TheVariants.{V3, V4}
 use Rattle.cfb_sectors.specs.Initial.{initial}
 use Rattle.cfb_sectors.specs.Sectors.{fat_in, filled_part, free, joined, sector, sector_start}
 use Rattle.cfb_sectors.specs.declared.initial.SectorInit.TheVariants.{Fat}
-use Rattle.cfb_chains.specs.Changes.{StayBut}
-use Rattle.cfb_chains.specs.Changes.{AreOnce, IsBeside}
+use Rattle.cfb_chains.specs.Changes.{SameExceptAt}
+use Rattle.cfb_chains.specs.Changes.{AreDistinct, IsBeside}
 use Rattle.cfb_fat.specs.Orderly.{AreBelow, IsBesideWords}
 use Rattle.cfb_chains.proofs.ChainWriting.{length-joined}
 use Rattle.cfb_fat.proofs.FatEntries.{per}
@@ -66,7 +66,7 @@ fat_longer v old new fs n same content =
     ∙ ap (λ l. fat_in v old fs ++ l) (fat_content v)
 
 -- the sectors of the FAT stay where what is beside the DIFAT does
-pub fat_sectors_stay : (v : Version) (old new ds fs : List ℕ) (count : ℕ) → AreOnce (ds ++ fs) → AreBelow count fs
+pub fat_sectors_stay : (v : Version) (old new ds fs : List ℕ) (count : ℕ) → AreDistinct (ds ++ fs) → AreBelow count fs
     → ((p n : ℕ) → p + n ≤ sector_start v count → IsBeside v ds p n × IsBesideWords p n → filled_part new p n ≡ filled_part old p n) → (k : ℕ) → k < length fs → sector v new (get_or fs k 0) ≡ sector v old (get_or fs k 0)
 fat_sectors_stay v old new ds fs count once below kept k inside =
     let id = get_or fs k 0 in
@@ -85,7 +85,7 @@ fat_covers fat all count each n more last is size sum fits =
     ∙ ap (λ l. all ++ l) (sym (take-replicate more each free fits)) ∙ sym (take-append-add all (replicate each free) more) ∙ ap (λ m. take m (all ++ replicate each free)) (let sums : length all + more ≡ n = omega (arith, size, sum) in sums)
 
 -- a number that is none so far
-pub once_more : (xs : List ℕ) (n : ℕ) → AreOnce xs → AreBelow n xs → AreOnce (xs ++ n ∷ [])
+pub once_more : (xs : List ℕ) (n : ℕ) → AreDistinct xs → AreBelow n xs → AreDistinct (xs ++ n ∷ [])
 once_more xs n once below k l k_below l_below same =
     let size = length-append xs (n ∷ []) in
     ⊎_elim
@@ -132,13 +132,13 @@ beside_more v xs p n id count apart fits behind k inside =
     later V3 p n id count fits behind = omega (arith, fits, behind)
     later V4 p n id count fits behind = omega (arith, fits, behind)
 
-pub once_front : (xs ys : List ℕ) → AreOnce (xs ++ ys) → AreOnce xs
+pub once_front : (xs ys : List ℕ) → AreDistinct (xs ++ ys) → AreDistinct xs
 once_front xs ys once k l k_below l_below same =
     let size = length-append xs ys in
     once k l (omega (arith, size, k_below)) (omega (arith, size, l_below)) (get_or_append_left xs ys 0 k k_below ∙ same ∙ sym (get_or_append_left xs ys 0 l l_below))
 
 -- entries behind the old
-pub stays_in_front : (entries old more new : List ℕ) → new ≡ old ++ more → StayBut entries old new
+pub stays_in_front : (entries old more new : List ℕ) → new ≡ old ++ more → SameExceptAt entries old new
 stays_in_front entries old more new is = record {
   size = let size = length-append old more in omega (arith, size, ap length is);
   others = λ n below none. ap (λ l. get_or l n 0) is ∙ get_or_append_left old more 0 n below;
@@ -166,7 +166,7 @@ module _ (xs ys : List ℕ) (n : ℕ) where
   size_middle : length ((xs ++ n ∷ []) ++ ys) ≡ length (xs ++ ys) + 1
   size_middle = let a = length-append (xs ++ n ∷ []) ys in let b = length-append xs (n ∷ []) in let c = length-append xs ys in omega (arith, a, b, c)
 
-  pub once_middle : AreOnce (xs ++ ys) → AreBelow n (xs ++ ys) → AreOnce ((xs ++ n ∷ []) ++ ys)
+  pub once_middle : AreDistinct (xs ++ ys) → AreBelow n (xs ++ ys) → AreDistinct ((xs ++ n ∷ []) ++ ys)
   once_middle once below k l k_below l_below same =
       let both = length-append xs ys in
       ⊎_elim
@@ -196,7 +196,7 @@ module _ (xs ys : List ℕ) (n : ℕ) where
           (leb_tells (length xs) m)
 
 -- numbers below a limit, none of which stands twice, are no more than that
-pub once_few : (count : ℕ) (xs : List ℕ) → AreOnce xs → AreBelow count xs → length xs ≤ count
+pub once_few : (count : ℕ) (xs : List ℕ) → AreDistinct xs → AreBelow count xs → length xs ≤ count
 once_few count xs once below = length-le_from_distinct_below xs count
     (IsDistinct-from_apart nat_eq xs (λ i j d less inside. differ (get_or xs i d) (get_or xs j d) (λ same.
     let apart = once i j (omega (arith, less, inside)) inside (sym (get_or_default xs i d 0 (omega (arith, less, inside))) ∙ same ∙ get_or_default xs j d 0 inside) in omega (arith, apart, less))))

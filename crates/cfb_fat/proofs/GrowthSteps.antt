@@ -15,15 +15,15 @@ use Rattle.cfb_medium.specs.declared.error.Error.{Error}
 use Rattle.cfb_sectors.specs.Initial.{first_bytes}
 use Rattle.cfb_sectors.specs.Sectors.{end_of_chain, filled_part, free, greatest_regular, sector, sector_start, Chain as IsChain}
 use Rattle.cfb_sectors.specs.declared.initial.NewSector.{NewSector}
-use Rattle.cfb_fat.specs.Calls.{Occupies}
+use Rattle.cfb_fat.specs.Calls.{AllocatesAndFills}
 use Rattle.cfb_fat.specs.declared.allocator.Allocator.{Allocator}
 use Rattle.cfb_fat.specs.Changing.{ChangesFat, MayWrite, WritesBeside}
 use Rattle.cfb_fat.specs.Growing.{GrowsFat}
-use Rattle.cfb_chains.specs.Changes.{IsBeside, IsNoneOf}
+use Rattle.cfb_chains.specs.Changes.{IsBeside, IsNotIn}
 use Rattle.cfb_fat.specs.Tables.{bytes_of, difat_sectors_of, fat_of, fat_sectors_of, has_failed_here, medium_of, sectors_of, tables_of, version_of}
 use Rattle.cfb_chains.proofs.Overwriting.{beside, over_longer}
 use Rattle.cfb_sectors.specs.Held.{count_of}
-use Rattle.cfb_fat.specs.Listed.{Counts, Ends}
+use Rattle.cfb_fat.specs.Listed.{Counts, EndsAsStrict}
 use Rattle.cfb_chains.proofs.Staying.{apart}
 use Rattle.cfb_fat.proofs.Appended.{whole_before}
 use Rattle.cfb_fat.proofs.EndsKept.{ends_over}
@@ -31,7 +31,7 @@ use Rattle.cfb_fat.proofs.ListedStays.{behind_header, told_over}
 use Rattle.cfb_fat.proofs.Listing.{header_whole}
 use Rattle.cfb_chains.proofs.Beside.{beside_second}
 use Rattle.cfb_fat.proofs.Packed.{not_none}
-use Rattle.cfb_medium.specs.Calls.{Extends}
+use Rattle.cfb_medium.specs.Calls.{Reaches}
 use Rattle.cfb_fat.specs.Keeping.{grows_then, lean_kept, lean_more, tables_same}
 use Rattle.cfb_chains.proofs.LongerTables.{holds_then, never}
 
@@ -46,7 +46,7 @@ module _ {F : Type 0} {g : Ghosts F} where
     orderly = λ live. h.orderly;
     fat = λ live. record { size = let same = (h.fat live).size in omega (arith, same); others = λ n below none. (h.fat live).others n none };
     tables = λ live p n fits apart. subst (λ l. IsBeside (version_of a) (l ++ fat_sectors_of b) p n) (sym h.difat_sectors) (subst (λ l. IsBeside (version_of a) (difat_sectors_of a ++ l) p n) (sym h.fat_sectors) apart);
-    still = λ live n. (subst (λ l. IsNoneOf l n) h.difat_sectors, subst (λ l. IsNoneOf l n) h.fat_sectors);
+    still = λ live n. (subst (λ l. IsNotIn l n) h.difat_sectors, subst (λ l. IsNotIn l n) h.fat_sectors);
     longer = h.longer;
     lean = λ live. lean_kept [] a b h.version (h.fat live).size h.fat_sectors h.difat_sectors;
     told = λ live honest. holds_then (tables_of a) (tables_of b) (tables_same a b h.difat_sectors h.fat_sectors) (h.told live honest);
@@ -55,7 +55,7 @@ module _ {F : Type 0} {g : Ghosts F} where
   }
 
   -- the same with other entries and sectors, of which the old file's are among these
-  pub grows_but : (t e taken entries : List ℕ) (a b : Allocator F g) → length t ≤ length taken → ((n : ℕ) → n < length (fat_of a) → IsNoneOf entries n → IsNoneOf e n)
+  pub grows_but : (t e taken entries : List ℕ) (a b : Allocator F g) → length t ≤ length taken → ((n : ℕ) → n < length (fat_of a) → IsNotIn entries n → IsNotIn e n)
       → ((p n : ℕ) → IsBeside (version_of a) taken p n → IsBeside (version_of a) t p n) → GrowsFat t e a b → GrowsFat taken entries a b
   grows_but t e taken entries a b no_more fewer apart h = record {
     honest = h.honest;
@@ -75,7 +75,7 @@ module _ {F : Type 0} {g : Ghosts F} where
   }
 
   -- of one that has failed nothing more is said
-  pub grows_failed : (taken entries : List ℕ) (a b : Allocator F g) → g.honest (medium_of b) ≡ g.honest (medium_of a) → Extends g.continues (medium_of a) (medium_of b) → version_of b ≡ version_of a
+  pub grows_failed : (taken entries : List ℕ) (a b : Allocator F g) → g.honest (medium_of b) ≡ g.honest (medium_of a) → Reaches g.continues (medium_of a) (medium_of b) → version_of b ≡ version_of a
       → has_failed_here b ≡ true → GrowsFat taken entries a b
   grows_failed taken entries a b honest continues version failed =
       record {
@@ -99,7 +99,7 @@ module _ {F : Type 0} {g : Ghosts F} where
   pub grows_marked : (a b c : Allocator F g) (n : ℕ) → length (fat_of a) ≤ n → GrowsFat [] [] a b → ChangesFat (n ∷ []) b c → GrowsFat [] [] a c
   grows_marked a b c n behind h k = grows_but [] (n ∷ []) [] [] a c (omega arith) (λ m below none. none_behind n m behind below) (λ p m aside. aside) (grows_then [] [] [] (n ∷ []) a b c h (change_grows (n ∷ []) b c k))
     where
-      none_behind : (n m : ℕ) → length (fat_of a) ≤ n → m < length (fat_of a) → IsNoneOf (n ∷ []) m
+      none_behind : (n m : ℕ) → length (fat_of a) ≤ n → m < length (fat_of a) → IsNotIn (n ∷ []) m
       none_behind n m behind below i inside same = let first : i ≡ 0 = omega (arith, inside) in let value : n ≡ m = sym (ap (λ j. get_or (n ∷ []) j 0) first) ∙ same in omega (arith, value, behind, below)
 
 -- one entry more, with a mark
@@ -125,13 +125,13 @@ marked_appended old mid new ds fs later_ds later_fs n x at is same_ds same_fs ma
     let front : k < length mid = ⊎_elim (λ here. absurd (none 0 (omega arith) (at ∙ sym here.1))) (λ off. let differ = off.1 in omega (arith, differ, size, below)) (eqb_tells k (length mid)) in
     let same : get_or new k 0 ≡ get_or mid k 0 = ap (λ l. get_or l k 0) is ∙ get_or_append_left mid (x ∷ []) 0 k front in
     ⊎_elim
-    (λ told. inl ((λ beside. told.0 (subst (λ l. IsNoneOf l k) same_ds beside)), same ∙ told.1))
-    (λ told. inr ((λ beside. told.0 (subst (λ l. IsNoneOf l k) same_fs beside)), same ∙ told.1))
+    (λ told. inl ((λ beside. told.0 (subst (λ l. IsNotIn l k) same_ds beside)), same ∙ told.1))
+    (λ told. inr ((λ beside. told.0 (subst (λ l. IsNotIn l k) same_fs beside)), same ∙ told.1))
     (marked k past front (λ i inside equal. omega (arith, inside)) (λ i inside equal. omega (arith, inside)))
 
 -- a number that a list ends with
-pub named_last : (fs now : List ℕ) (n k : ℕ) → now ≡ fs ++ k ∷ [] → n ≡ k → IsNoneOf now n → ⊥
-named_last fs now n k is same none = not_none fs k (subst (IsNoneOf (fs ++ k ∷ [])) same (subst (λ l. IsNoneOf l n) is none))
+pub named_last : (fs now : List ℕ) (n k : ℕ) → now ≡ fs ++ k ∷ [] → n ≡ k → IsNotIn now n → ⊥
+named_last fs now n k is same none = not_none fs k (subst (IsNotIn (fs ++ k ∷ [])) same (subst (λ l. IsNotIn l n) is none))
 
 pub room_after : (v : Version) (size fat_count more new count : ℕ) → size ≡ fat_count * (sector_len v / 4) → more ≤ 2 → new ≡ size + more → count ≡ fat_count + 1 → new < count * (sector_len v / 4)
 room_after V3 size fat_count more new count full few is sum = omega (arith, full, few, is, sum)
@@ -139,7 +139,7 @@ room_after V4 size fat_count more new count full few is sum = omega (arith, full
 
 module _ {F : Type 0} {g : Ghosts F} where
   -- a sector beside the tables is filled anew
-  pub write_grows : (n : ℕ) (bytes : List ℕ) (a b : Allocator F g) → 0 < count_of (sectors_of a) → n < count_of (sectors_of a) → IsNoneOf (difat_sectors_of a) n → length bytes ≡ sector_len (version_of a) → WritesBeside (sector_start (version_of a) n) bytes a b → GrowsFat (n ∷ []) [] a b
+  pub write_grows : (n : ℕ) (bytes : List ℕ) (a b : Allocator F g) → 0 < count_of (sectors_of a) → n < count_of (sectors_of a) → IsNotIn (difat_sectors_of a) n → length bytes ≡ sector_len (version_of a) → WritesBeside (sector_start (version_of a) n) bytes a b → GrowsFat (n ∷ []) [] a b
   write_grows n bytes a b some there none long h = record {
     honest = h.sectors.0.honest;
     continues = h.sectors.0.continues;
@@ -149,7 +149,7 @@ module _ {F : Type 0} {g : Ghosts F} where
     orderly = λ live. h.orderly;
     fat = λ live. record { size = omega (arith, ap length h.fat); others = λ m below none. ap (λ l. get_or l m 0) h.fat };
     tables = λ live p k fits apart. subst (λ l. IsBeside (version_of a) (l ++ fat_sectors_of b) p k) (sym h.difat_sectors) (subst (λ l. IsBeside (version_of a) (difat_sectors_of a ++ l) p k) (sym h.fat_sectors) apart);
-    still = λ live m. (subst (λ l. IsNoneOf l m) h.difat_sectors, subst (λ l. IsNoneOf l m) h.fat_sectors);
+    still = λ live m. (subst (λ l. IsNotIn l m) h.difat_sectors, subst (λ l. IsNotIn l m) h.fat_sectors);
     longer = λ live honest. subst (λ l. length (bytes_of a) ≤ length l) (sym (h.sectors.0.bytes live honest)) (over_longer (bytes_of a) bytes (sector_start (version_of a) n));
     lean = λ live. lean_kept (n ∷ []) a b h.sectors.0.version (ap length h.fat) h.fat_sectors h.difat_sectors;
     told = λ live honest. holds_then (tables_of a) (tables_of b) (tables_same a b h.difat_sectors h.fat_sectors) (λ told.
@@ -159,7 +159,7 @@ module _ {F : Type 0} {g : Ghosts F} where
     ends = λ live honest orderly ends.
         let v = version_of a in
         let far = behind_header v n in
-        subst (Ends (version_of b) (bytes_of b)) (sym h.difat_sectors)
+        subst (EndsAsStrict (version_of b) (bytes_of b)) (sym h.difat_sectors)
         (ends_over v (version_of b) (bytes_of a) (bytes_of b) bytes (difat_sectors_of a) (fat_sectors_of a) (sector_start v n) (count_of (sectors_of a)) h.sectors.0.version (h.sectors.0.bytes live honest)
         (a.sectors.counted (h.sectors.0.live live) honest) some (subst (λ k. sector_start v n + k ≤ sector_start v (count_of (sectors_of a))) (sym long) (whole_before v n (count_of (sectors_of a)) there))
         (inr (inr (omega (arith, far)))) (subst (IsBeside v (difat_sectors_of a) (sector_start v n)) (sym long) (apart v (difat_sectors_of a) n none)) ((a.listed (h.sectors.0.live live) honest).0 orderly).1 ends);
@@ -174,7 +174,7 @@ module _ {F : Type 0} {g : Ghosts F} where
   grows_again = grows_then [] [] [] []
 
   -- tables became longer, and then a sector came into use
-  pub occupies_after : (init : NewSector) (a b c : Allocator F g) (n : ℕ) → GrowsFat [] [] a b → Occupies init b c n → Occupies init a c n
+  pub occupies_after : (init : NewSector) (a b c : Allocator F g) (n : ℕ) → GrowsFat [] [] a b → AllocatesAndFills init b c n → AllocatesAndFills init a c n
   occupies_after init a b c n h k = record {
     grows = grows_then [] [] (n ∷ []) (n ∷ []) a b c h k.grows;
     fresh = record {

@@ -6,14 +6,14 @@ use Rattle.cfb_medium.specs.declared.version.Version.{Version}
 use Rattle.cfb_medium.specs.declared.version.Version.TheVariants.{V3, V4}
 use Rattle.cfb_sectors.specs.Held.{count_of}
 use Rattle.cfb_sectors.specs.Sectors.{filled_part, sector, sector_start}
-use Rattle.cfb_chains.specs.Changes.{IsBeside, IsNoneOf}
-use Rattle.cfb_chains.specs.Owned.{Leaves}
+use Rattle.cfb_chains.specs.Changes.{IsBeside, IsNotIn}
+use Rattle.cfb_chains.specs.Owned.{ChangesAtMost}
 use Rattle.cfb_chains.proofs.Beside.{none_both, none_first, none_second}
 use Rattle.cfb_chains.proofs.Overwriting.{beside}
 use Rattle.cfb_chains.proofs.Staying.{apart}
 use Rattle.cfb_fat.specs.declared.allocator.Allocator.{Allocator}
 use Rattle.cfb_fat.specs.Changing.{ChangesFat, MayWrite, WritesBeside}
-use Rattle.cfb_fat.specs.Growing.{TakesIn}
+use Rattle.cfb_fat.specs.Growing.{AllocatesSectors}
 use Rattle.cfb_fat.specs.HeaderWords.{word_place}
 use Rattle.cfb_fat.specs.declared.header.HeaderWord.{HeaderWord}
 use Rattle.cfb_fat.specs.declared.header.HeaderWord.TheVariants.{DirectorySectors, FirstDirectorySector, FirstMiniFatSector, MiniFatSectors}
@@ -28,7 +28,7 @@ header_aside : (v : Version) (sectors : List ℕ) (place count : ℕ) → place 
 header_aside v sectors place count front k below = inr (let far = behind_header v (get_or sectors k 0) in omega (arith, front, far))
 
 -- what is beside a list of sectors with a whole one is beside that
-pub none_there : (v : Version) (sectors : List ℕ) (n : ℕ) → IsBeside v sectors (sector_start v n) (sector_len v) → IsNoneOf sectors n
+pub none_there : (v : Version) (sectors : List ℕ) (n : ℕ) → IsBeside v sectors (sector_start v n) (sector_len v) → IsNotIn sectors n
 none_there V3 sectors n aside k below same = ⊎_elim (λ before. omega (arith, before, same)) (λ behind. omega (arith, behind, same)) (aside k below)
 none_there V4 sectors n aside k below same = ⊎_elim (λ before. omega (arith, before, same)) (λ behind. omega (arith, behind, same)) (aside k below)
 
@@ -40,7 +40,7 @@ beside_words FirstMiniFatSector = inr (omega arith, omega arith)
 beside_words MiniFatSectors = inr (omega arith, omega arith)
 
 module _ {F : Type 0} {g : Ghosts F} where
-  pub takes_leave : (taken entries : List ℕ) (a b : Allocator F g) → TakesIn taken entries a b → has_failed_here b ≡ false → IsTrue (is_honest a) → Leaves (sector (version_of a)) [] (taken ++ entries) (seen_of a) (seen_of b)
+  pub takes_leave : (taken entries : List ℕ) (a b : Allocator F g) → AllocatesSectors taken entries a b → has_failed_here b ≡ false → IsTrue (is_honest a) → ChangesAtMost (sector (version_of a)) [] (taken ++ entries) (seen_of a) (seen_of b)
   unfolding seen_of
   takes_leave taken entries a b h live honest =
       let v = version_of a in
@@ -64,7 +64,7 @@ module _ {F : Type 0} {g : Ghosts F} where
             (⊎_elim (λ before. inl before) (λ after. inr (inl (omega (arith, after), front))) words.0) (header_aside v taken place count front);
       }
 
-  pub changes_leave : (entries : List ℕ) (a b : Allocator F g) → ChangesFat entries a b → has_failed_here b ≡ false → IsTrue (is_honest a) → Leaves (sector (version_of a)) [] entries (seen_of a) (seen_of b)
+  pub changes_leave : (entries : List ℕ) (a b : Allocator F g) → ChangesFat entries a b → has_failed_here b ≡ false → IsTrue (is_honest a) → ChangesAtMost (sector (version_of a)) [] entries (seen_of a) (seen_of b)
   unfolding seen_of
   changes_leave entries a b h live honest =
       let v = version_of a in
@@ -75,15 +75,15 @@ module _ {F : Type 0} {g : Ghosts F} where
         size = omega (arith, size);
         entries = λ n below none. (h.fat live).others n none;
         sectors = λ n below loose none. h.beside live honest (sector_start v n) (sector_len v) (apart v (fat_sectors_of a) n (none_second (difat_sectors_of a) (fat_sectors_of a) n loose));
-        apart = λ n below loose. subst (λ l. IsNoneOf l n) (sym same) loose;
-        still = λ n loose. subst (λ l. IsNoneOf l n) same loose;
+        apart = λ n below loose. subst (λ l. IsNotIn l n) (sym same) loose;
+        still = λ n loose. subst (λ l. IsNotIn l n) same loose;
         behind = λ n past below none. absurd (omega (arith, size, past, below));
         header = λ place count front words. h.beside live honest place count (header_aside v (fat_sectors_of a) place count front);
       }
 
   -- a write in one sector
   pub writes_leave : (n offset : ℕ) (xs : List ℕ) (a b : Allocator F g) → offset + length xs ≤ sector_len (version_of a) → WritesBeside (sector_start (version_of a) n + offset) xs a b → has_failed_here b ≡ false → IsTrue (is_honest a)
-      → Leaves (sector (version_of a)) [] (n ∷ []) (seen_of a) (seen_of b)
+      → ChangesAtMost (sector (version_of a)) [] (n ∷ []) (seen_of a) (seen_of b)
   unfolding seen_of
   writes_leave n offset xs a b fits h live honest =
       let v = version_of a in
@@ -98,8 +98,8 @@ module _ {F : Type 0} {g : Ghosts F} where
             ap (λ l. filled_part l (sector_start v m) (sector_len v)) bytes
             ∙ beside (bytes_of a) xs (sector_start v n + offset) (sector_start v m) (sector_len v)
             (⊎_elim (λ before. inr (omega (arith, before, fits))) (λ after. inl (omega (arith, after))) (apart v (n ∷ []) m none 0 (omega arith)));
-        apart = λ m below loose. subst (λ l. IsNoneOf l m) (sym same) loose;
-        still = λ m loose. subst (λ l. IsNoneOf l m) same loose;
+        apart = λ m below loose. subst (λ l. IsNotIn l m) (sym same) loose;
+        still = λ m loose. subst (λ l. IsNotIn l m) same loose;
         behind = λ m past below none. absurd (omega (arith, size, past, below));
         header = λ place count front words.
             let far = behind_header v n in
@@ -107,7 +107,7 @@ module _ {F : Type 0} {g : Ghosts F} where
       }
 
   -- a number of the header that is none of the tables'
-  pub word_leave : (place : ℕ) (xs : List ℕ) (a b : Allocator F g) → length xs ≡ 4 → place + 4 ≤ 68 → WritesBeside place xs a b → has_failed_here b ≡ false → IsTrue (is_honest a) → Leaves (sector (version_of a)) (place ∷ []) [] (seen_of a) (seen_of b)
+  pub word_leave : (place : ℕ) (xs : List ℕ) (a b : Allocator F g) → length xs ≡ 4 → place + 4 ≤ 68 → WritesBeside place xs a b → has_failed_here b ≡ false → IsTrue (is_honest a) → ChangesAtMost (sector (version_of a)) (place ∷ []) [] (seen_of a) (seen_of b)
   unfolding seen_of
   word_leave place xs a b four front h live honest =
       let same = tables_same a b h.difat_sectors h.fat_sectors in
@@ -120,8 +120,8 @@ module _ {F : Type 0} {g : Ghosts F} where
         sectors = λ m below loose none.
             let far = behind_header (version_of a) m in
             ap (λ l. filled_part l (sector_start (version_of a) m) (sector_len (version_of a))) bytes ∙ beside (bytes_of a) xs place (sector_start (version_of a) m) (sector_len (version_of a)) (inr (omega (arith, four, front, far)));
-        apart = λ m below loose. subst (λ l. IsNoneOf l m) (sym same) loose;
-        still = λ m loose. subst (λ l. IsNoneOf l m) same loose;
+        apart = λ m below loose. subst (λ l. IsNotIn l m) (sym same) loose;
+        still = λ m loose. subst (λ l. IsNotIn l m) same loose;
         behind = λ m past below none. absurd (omega (arith, size, past, below));
         header = λ p count inside words.
             ap (λ l. filled_part l p count) bytes ∙ beside (bytes_of a) xs place p count (⊎_elim (λ before. inl before) (λ after. inr (omega (arith, after, four))) words.1.0);

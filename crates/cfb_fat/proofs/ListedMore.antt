@@ -14,7 +14,7 @@ use Rattle.cfb_medium.specs.declared.version.Version.TheVariants.{V3, V4}
 use Rattle.cfb_sectors.specs.Header.{header_difat}
 use Rattle.cfb_sectors.specs.Sectors.{difat, end_of_chain, filled_part, free, sector, sector_start, sectors_in, DifatChain}
 use Rattle.cfb_fat.specs.Listed.{Lists}
-use Rattle.cfb_chains.specs.Changes.{AreOnce, IsBeside}
+use Rattle.cfb_chains.specs.Changes.{AreDistinct, IsBeside}
 use Rattle.cfb_fat.specs.Orderly.{AreBelow, IsBesideWords}
 use Rattle.cfb_fat.proofs.DifatChains.{below_in_file, in_file_below}
 use Rattle.cfb_fat.proofs.FatEntries.{per}
@@ -59,7 +59,7 @@ set_free [] (suc u) x some = let same : u ≡ suc u - 1 = omega arith in ap (λ 
 set_free (y ∷ xs) u x some = ap (λ l. y ∷ l) (set_free xs u x some)
 
 -- the DIFAT names a sector more of the FAT
-pub fat_listed : (v : Version) (old new ds fs : List ℕ) (n q count : ℕ) → 512 ≤ length old → 512 ≤ length new → sectors_in v (length old) ≤ sectors_in v (length new) → 0 < count → AreBelow count ds → AreOnce ds
+pub fat_listed : (v : Version) (old new ds fs : List ℕ) (n q count : ℕ) → 512 ≤ length old → 512 ≤ length new → sectors_in v (length old) ≤ sectors_in v (length new) → 0 < count → AreBelow count ds → AreDistinct ds
     → length fs < 109 + length ds * (per v - 1) → StandsAt v ds (length fs) q → word new q ≡ n
     → ((r : ℕ) → r < (count + 1) * per v → q ≢ r → 11 ≢ r → 18 ≢ r → word new r ≡ word old r) → (h : Lists v old ds fs) → (m : Lists v new ds (fs ++ n ∷ [])) × (m.stop ≡ h.stop)
 fat_listed v old new ds fs n q count in_old in_new more some below once room at here others h =
@@ -85,7 +85,7 @@ fat_listed v old new ds fs n q count in_old in_new more some below once room at 
     )
 
 -- the DIFAT has a sector more
-pub difat_listed : (v : Version) (old new ds fs : List ℕ) (n q count : ℕ) → 512 ≤ length old → 512 ≤ length new → sectors_in v (length old) ≤ sectors_in v (length new) → 0 < count → AreBelow count ds → AreOnce ds
+pub difat_listed : (v : Version) (old new ds fs : List ℕ) (n q count : ℕ) → 512 ≤ length old → 512 ≤ length new → sectors_in v (length old) ≤ sectors_in v (length new) → 0 < count → AreBelow count ds → AreDistinct ds
     → (length ds ≡ 0 → q ≡ 17) → (0 < length ds → q ≡ next_at v (get_or ds (length ds - 1) 0)) → word new q ≡ n
     → ((r : ℕ) → r < (count + 1) * per v → q ≢ r → word new r ≡ word old r) → n < sectors_in v (length new) → entries_in v new n ≡ replicate (per v - 1) free → word new (next_at v n) ≡ end_of_chain
     → Lists v old ds fs → (m : Lists v new (ds ++ n ∷ []) fs) × (m.stop ≡ end_of_chain)
@@ -112,7 +112,7 @@ difat_listed v old new ds fs n q count in_old in_new more some below once first 
     start_same : (q ≢ 17) → u32_at new 68 ≡ u32_at old 68
     start_same other = header_word new 68 17 refl (omega (arith, in_new)) ∙ others 17 (let far = behind_words v count 0 in omega (arith, far)) other ∙ sym (header_word old 68 17 refl (omega (arith, in_old)))
 
-    linked : (ds : List ℕ) → (length ds ≡ 0 → q ≡ 17) → (0 < length ds → q ≡ next_at v (get_or ds (length ds - 1) 0)) → AreBelow count ds → AreOnce ds → (stop : ℕ) → DifatChain v old (u32_at old 68) ds stop → DifatChain v new (u32_at new 68) (ds ++ n ∷ []) end_of_chain
+    linked : (ds : List ℕ) → (length ds ≡ 0 → q ≡ 17) → (0 < length ds → q ≡ next_at v (get_or ds (length ds - 1) 0)) → AreBelow count ds → AreDistinct ds → (stop : ℕ) → DifatChain v old (u32_at old 68) ds stop → DifatChain v new (u32_at new 68) (ds ++ n ∷ []) end_of_chain
     linked [] first last below once stop chain =
         let start : u32_at new 68 ≡ n = header_word new 68 17 refl (omega (arith, in_new)) ∙ ap (word new) (sym (first (omega arith))) ∙ here in
         subst (λ m. DifatChain v new m (n ∷ []) end_of_chain) (sym start) (refl, below_in_file v new n there, next_word v new n ∙ ends)

@@ -12,7 +12,7 @@ use Rattle.cfb_medium.specs.declared.version.Version.TheVariants.{V3, V4}
 use Rattle.cfb_sectors.specs.Header.{header_difat}
 use Rattle.cfb_sectors.specs.Sectors.{filled_part, sector, sector_start, sectors_in, DifatChain}
 use Rattle.cfb_fat.specs.Listed.{Counts, Lists}
-use Rattle.cfb_chains.specs.Changes.{AreOnce, IsBeside, IsNoneOf}
+use Rattle.cfb_chains.specs.Changes.{AreDistinct, IsBeside, IsNotIn}
 use Rattle.cfb_fat.specs.Orderly.{IsBesideWords}
 use Rattle.cfb_fat.proofs.DifatChains.{below_in_file, in_file_below}
 use Rattle.cfb_fat.proofs.Entering.{rest_below}
@@ -127,11 +127,11 @@ pub told_in : (v : Version) (b after xs ds fs : List ℕ) (n o : ℕ) → after 
 told_in v b after xs ds fs n o written = let far = behind_header v n in told_over b after xs ds fs (sector_start v n + o) written (omega (arith, far))
 
 -- a part of a sector that is none of these
-pub part_aside : (v : Version) (ds : List ℕ) (n o k : ℕ) → IsNoneOf ds n → o + k ≤ sector_len v → IsBeside v ds (sector_start v n + o) k
+pub part_aside : (v : Version) (ds : List ℕ) (n o k : ℕ) → IsNotIn ds n → o + k ≤ sector_len v → IsBeside v ds (sector_start v n + o) k
 part_aside v ds n o k none fits i below = ⊎_elim (λ before. inl (omega (arith, before))) (λ behind. inr (omega (arith, behind, fits))) (apart v ds n none i below)
 
 -- a sector of the FAT is none of the DIFAT
-pub none_of_difat : (ds fs : List ℕ) (i n : ℕ) → AreOnce (ds ++ fs) → i < length fs → n ≡ get_or fs i 0 → IsNoneOf ds n
+pub none_of_difat : (ds fs : List ℕ) (i n : ℕ) → AreDistinct (ds ++ fs) → i < length fs → n ≡ get_or fs i 0 → IsNotIn ds n
 none_of_difat ds fs i n once below is k inside same =
     let size = length-append ds fs in
     let here : get_or (ds ++ fs) (length ds + i) 0 ≡ get_or fs i 0 = get_or-append_right ds fs (length ds + i) 0 (omega arith) ∙ ap (λ m. get_or fs m 0) (omega arith) in
@@ -139,7 +139,7 @@ none_of_difat ds fs i n once below is k inside same =
     omega (arith, equal, inside)
 
 -- an entry of the FAT is beside the words and the DIFAT
-pub entry_aside : (v : Version) (ds fs xs : List ℕ) (index holder each : ℕ) → length xs ≡ 4 → each ≡ per v → index / each < length fs → holder ≡ get_or fs (index / each) 0 → AreOnce (ds ++ fs)
+pub entry_aside : (v : Version) (ds fs xs : List ℕ) (index holder each : ℕ) → length xs ≡ 4 → each ≡ per v → index / each < length fs → holder ≡ get_or fs (index / each) 0 → AreDistinct (ds ++ fs)
     → IsBesideWords (sector_start v holder + 4 * (index % each)) (length xs) × IsBeside v ds (sector_start v holder + 4 * (index % each)) (length xs)
 entry_aside v ds fs xs index holder each four is_each below is_holder once =
     let offset : index % each < per v = subst (λ e. index % e < per v) (sym is_each) (rest_below v index) in

@@ -6,12 +6,12 @@ use Rattle.std.proofs.lemmas.List.{get_or_append_left, get_or-replicate, length-
 use Rattle.cfb_medium.specs.declared.medium.ReadMedium.{Ghosts}
 use Rattle.cfb_medium.specs.declared.version.Version.{Version}
 use Rattle.cfb_medium.specs.declared.version.Version.TheVariants.{V3, V4}
-use Rattle.cfb_sectors.specs.Held.{bytes_of, count_of, version_of, IsHonest, Rests}
+use Rattle.cfb_sectors.specs.Held.{bytes_of, count_of, version_of, IsHonest, OnlyReadsSectors}
 use Rattle.cfb_sectors.specs.Sectors.{difat, free, greatest_regular, sectors_in}
 use Rattle.cfb_sectors.specs.declared.sectors.Sectors.{Sectors}
 use Rattle.cfb_sectors.proofs.OneChain.{difat_unique}
 use Rattle.cfb_fat.specs.Listed.{Lists}
-use Rattle.cfb_fat.specs.Orderly.{AreBelow, IsOrderly}
+use Rattle.cfb_fat.specs.Orderly.{AreBelow, AreTablesConsistent}
 use Rattle.std.proofs.Props.{props}
 use Rattle.std.proofs.lemmas.Grind.{merely}
 use mathlib.Core.Logic.{∥∥₁_elim}
@@ -60,25 +60,25 @@ header_whole V4 b count counted some = omega (arith, counted, some)
 
 module _ {F : Type 0} {g : Ghosts F} where
   -- what was listed after reads was listed before
-  pub listed_before : (a b : Sectors F g) (ds fs : List ℕ) → Rests a b → IsHonest a → 512 ≤ length (bytes_of a) → (IsHonest b → 512 ≤ length (bytes_of b) → Lists (version_of b) (bytes_of b) ds fs) → Lists (version_of a) (bytes_of a) ds fs
+  pub listed_before : (a b : Sectors F g) (ds fs : List ℕ) → OnlyReadsSectors a b → IsHonest a → 512 ≤ length (bytes_of a) → (IsHonest b → 512 ≤ length (bytes_of b) → Lists (version_of b) (bytes_of b) ds fs) → Lists (version_of a) (bytes_of a) ds fs
   listed_before a b ds fs rests honest whole read =
       subst (λ v. Lists v (bytes_of a) ds fs) rests.version (subst (λ l. Lists (version_of b) l ds fs) (rests.bytes honest)
       (read (subst IsTrue (sym rests.honest) honest) (subst (λ l. 512 ≤ length l) (sym (rests.bytes honest)) whole)))
 
-  pub listed_after : (a b : Sectors F g) (ds fs : List ℕ) → Rests a b → IsHonest a → 512 ≤ length (bytes_of a) → (IsHonest b → 512 ≤ length (bytes_of b) → (xs ys : List ℕ) → Lists (version_of b) (bytes_of b) xs ys → ⊥) → Lists (version_of a) (bytes_of a) ds fs → ⊥
+  pub listed_after : (a b : Sectors F g) (ds fs : List ℕ) → OnlyReadsSectors a b → IsHonest a → 512 ≤ length (bytes_of a) → (IsHonest b → 512 ≤ length (bytes_of b) → (xs ys : List ℕ) → Lists (version_of b) (bytes_of b) xs ys → ⊥) → Lists (version_of a) (bytes_of a) ds fs → ⊥
   listed_after a b ds fs rests honest whole none lists =
       none (subst IsTrue (sym rests.honest) honest) (subst (λ l. 512 ≤ length l) (sym (rests.bytes honest)) whole) ds fs
       (subst (λ v. Lists v (bytes_of b) ds fs) (sym rests.version) (subst (λ l. Lists (version_of a) l ds fs) (sym (rests.bytes honest)) lists))
 
-  pub order_before : (a b : Sectors F g) (fat fs ds : List ℕ) → Rests a b → IsOrderly (version_of b) (count_of b) fat fs ds → IsOrderly (version_of a) (count_of a) fat fs ds
-  order_before a b fat fs ds rests h = subst (λ v. IsOrderly v (count_of a) fat fs ds) rests.version (subst (λ n. IsOrderly (version_of b) n fat fs ds) rests.count h)
+  pub order_before : (a b : Sectors F g) (fat fs ds : List ℕ) → OnlyReadsSectors a b → AreTablesConsistent (version_of b) (count_of b) fat fs ds → AreTablesConsistent (version_of a) (count_of a) fat fs ds
+  order_before a b fat fs ds rests h = subst (λ v. AreTablesConsistent v (count_of a) fat fs ds) rests.version (subst (λ n. AreTablesConsistent (version_of b) n fat fs ds) rests.count h)
 
-  pub order_after : (a b : Sectors F g) (fat fs ds : List ℕ) → Rests a b → IsOrderly (version_of a) (count_of a) fat fs ds → IsOrderly (version_of b) (count_of b) fat fs ds
-  order_after a b fat fs ds rests h = subst (λ v. IsOrderly v (count_of b) fat fs ds) (sym rests.version) (subst (λ n. IsOrderly (version_of a) n fat fs ds) (sym rests.count) h)
+  pub order_after : (a b : Sectors F g) (fat fs ds : List ℕ) → OnlyReadsSectors a b → AreTablesConsistent (version_of a) (count_of a) fat fs ds → AreTablesConsistent (version_of b) (count_of b) fat fs ds
+  order_after a b fat fs ds rests h = subst (λ v. AreTablesConsistent v (count_of b) fat fs ds) (sym rests.version) (subst (λ n. AreTablesConsistent (version_of a) n fat fs ds) (sym rests.count) h)
 
   -- what was found of the tables stands after reads
-  pub listed_still_read : (a b : Sectors F g) (is : Bool) (fat fs ds : List ℕ) → Rests a b → IsHonest a → (IsTrue is ↔ (IsOrderly (version_of a) (count_of a) fat fs ds × Lists (version_of a) (bytes_of a) ds fs))
-      → IsTrue is ↔ (IsOrderly (version_of b) (count_of b) fat fs ds × ∥ Lists (version_of b) (bytes_of b) ds fs ∥₁)
+  pub listed_still_read : (a b : Sectors F g) (is : Bool) (fat fs ds : List ℕ) → OnlyReadsSectors a b → IsHonest a → (IsTrue is ↔ (AreTablesConsistent (version_of a) (count_of a) fat fs ds × Lists (version_of a) (bytes_of a) ds fs))
+      → IsTrue is ↔ (AreTablesConsistent (version_of b) (count_of b) fat fs ds × ∥ Lists (version_of b) (bytes_of b) ds fs ∥₁)
   listed_still_read a b is fat fs ds rests honest h = (
     λ holds. let both = h.0 holds in
         (order_after a b fat fs ds rests both.0, merely (subst (λ v. Lists v (bytes_of b) ds fs) (sym rests.version) (subst (λ l. Lists (version_of a) l ds fs) (sym (rests.bytes honest)) both.1))),

@@ -1,7 +1,7 @@
 -- Places that the FAT's sectors have for entries, against the entries that it has.
 use Rattle.std.proofs.Common.{◌≡◌, ℕ, ◌+◌, ◌*◌, ◌/◌, ◌<◌, ◌≤◌, ◌^◌, true, sym, subst, arith}
 use Rattle.std.specs.Prelude.{Result, Ok, Err, IsErrAnd}
-use Rattle.cfb_medium.specs.Calls.{Extends, IsFaultUnless}
+use Rattle.cfb_medium.specs.Calls.{Reaches, IsFaultOrInvalidInputIf}
 use Rattle.cfb_medium.specs.Versions.{sector_len}
 use Rattle.cfb_medium.specs.declared.error.Error.{Error}
 use Rattle.cfb_medium.specs.declared.medium.ReadMedium.{Ghosts}
@@ -10,7 +10,7 @@ use Rattle.cfb_medium.specs.declared.version.Version.TheVariants.{V3, V4}
 use Rattle.cfb_sectors.specs.Held as held
 use Rattle.cfb_sectors.specs.Sectors.{greatest_regular, sector_start}
 use Rattle.cfb_sectors.specs.declared.sectors.Sectors.{Sectors}
-use Rattle.cfb_fat.specs.Calls.{Attempts}
+use Rattle.cfb_fat.specs.Calls.{WriteErrorContract}
 use Rattle.cfb_fat.specs.Growing.{HasMemory}
 use Rattle.cfb_fat.specs.declared.allocator.Allocator.{Allocator}
 use Rattle.cfb_fat.proofs.EntryChanges.{cause_since}
@@ -49,14 +49,14 @@ few_bytes V4 count place size ends few = omega (arith, ends, few)
 
 module _ {F : Type 0} {g : Ghosts F} where
   -- an error that is passed on after a change, by writes alone
-  pub passed_attempts : {T : Type 0} (r : Result T Error) (e : Error) (a m b : Sectors F g) → IsErrAnd r (λ x. x ≡ e) → Extends g.continues (held.medium_of a) (held.medium_of m) → held.has_failed_here m ≡ held.has_failed_here a
-      → held.has_failed_here b ≡ true → held.HasItsCause m b e → IsFaultUnless ⊥ e → Attempts r a b
+  pub passed_attempts : {T : Type 0} (r : Result T Error) (e : Error) (a m b : Sectors F g) → IsErrAnd r (λ x. x ≡ e) → Reaches g.continues (held.medium_of a) (held.medium_of m) → held.has_failed_here m ≡ held.has_failed_here a
+      → held.has_failed_here b ≡ true → held.IsJustifiedByMedium m b e → IsFaultOrInvalidInputIf ⊥ e → WriteErrorContract r a b
   passed_attempts (Ok x) e a m b h leads same failed cause fault = absurd h
   passed_attempts (Err x) e a m b h leads same failed cause fault = record {
     live = tt;
     err = failed;
-    cause = subst (held.HasItsCause a b) (sym h) (cause_since a m b e leads same cause);
-    fault = subst (IsFaultUnless ⊥) (sym h) fault;
+    cause = subst (held.IsJustifiedByMedium a b) (sym h) (cause_since a m b e leads same cause);
+    fault = subst (IsFaultOrInvalidInputIf ⊥) (sym h) fault;
   }
 
   -- what there is memory for, with one sector less

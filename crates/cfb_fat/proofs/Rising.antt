@@ -10,7 +10,7 @@ use Rattle.cfb_medium.specs.Versions.{sector_len}
 use Rattle.cfb_medium.specs.declared.version.Version.{Version}
 use Rattle.cfb_medium.specs.declared.version.Version.TheVariants.{V3, V4}
 use Rattle.cfb_sectors.specs.Sectors.{sector_start}
-use Rattle.cfb_chains.specs.Changes.{IsBeside, IsNoneOf}
+use Rattle.cfb_chains.specs.Changes.{IsBeside, IsNotIn}
 use Rattle.cfb_fat.specs.Orderly.{AreBelow}
 use Rattle.cfb_fat.specs.Rising.{AreRead, IsBesideFrom, RiseFrom}
 
@@ -18,11 +18,11 @@ use Rattle.cfb_fat.specs.Rising.{AreRead, IsBesideFrom, RiseFrom}
 pub rise_sorted : (xs : List ℕ) → IsSorted nat_cmp xs → RiseFrom 0 xs
 rise_sorted xs up k l from most inside = IsNonDecreasingBy-from_sort (λ n. n) xs up k l 0 most inside
 
-pub none_shuffled : (xs ys : List ℕ) → IsPermutation xs ys → (n : ℕ) → IsNoneOf xs n → IsNoneOf ys n
+pub none_shuffled : (xs ys : List ℕ) → IsPermutation xs ys → (n : ℕ) → IsNotIn xs n → IsNotIn ys n
 none_shuffled xs ys moved n none k inside same =
     All-permutation (λ x. x ≡ n → ⊥) xs ys moved (λ j d within is. none j within (sym (get_or_default xs j d 0 within) ∙ is)) k 0 inside same
 
-pub all_read : (read xs : List ℕ) → ((n : ℕ) → IsNoneOf read n → IsNoneOf xs n) → AreRead read (length xs) xs
+pub all_read : (read xs : List ℕ) → ((n : ℕ) → IsNotIn read n → IsNotIn xs n) → AreRead read (length xs) xs
 all_read read xs among = record {
   inside = omega arith;
   front = λ k below none. among (get_or xs k 0) none k below refl;
@@ -36,7 +36,7 @@ none_read read none = subst (RiseFrom 0) (sym none) (λ k l from most inside. ab
 pub read_more : (read xs : List ℕ) (from m : ℕ) → AreRead read from xs → AreBelow m xs → AreRead read from (xs ++ m ∷ [])
 read_more read xs from m h below = record {
   inside = let size = length-append xs (m ∷ []) in let had = h.inside in omega (arith, size, had);
-  front = λ k front none. h.front k front (subst (IsNoneOf read) (get_or_append_left xs (m ∷ []) 0 k (let had = h.inside in omega (arith, front, had))) none);
+  front = λ k front none. h.front k front (subst (IsNotIn read) (get_or_append_left xs (m ∷ []) 0 k (let had = h.inside in omega (arith, front, had))) none);
   rest = λ k l later most inside.
       let size = length-append xs (m ∷ []) in
       ⊎_elim
@@ -66,7 +66,7 @@ beside_read v read xs from p n h first rest k inside = ⊎_elim
     (λ j within same. no (subst (λ s. (sector_start v s + sector_len v ≤ p) ⊎ (p + n ≤ sector_start v s)) same (first j (omega arith) within)))))
     (leb_tells from k)
 
-pub beside_alone : (v : Version) (read ds fs : List ℕ) (p n : ℕ) → ((s : ℕ) → IsNoneOf ds s → IsNoneOf fs s → IsNoneOf read s) → IsBeside v ds p n → IsBeside v fs p n → IsBesideFrom 0 v read p n
+pub beside_alone : (v : Version) (read ds fs : List ℕ) (p n : ℕ) → ((s : ℕ) → IsNotIn ds s → IsNotIn fs s → IsNotIn read s) → IsBeside v ds p n → IsBeside v fs p n → IsBesideFrom 0 v read p n
 beside_alone v read ds fs p n alone no_ds no_fs k from inside =
     let s = get_or read k 0 in
     touches v s p n (λ no. alone s
@@ -80,7 +80,7 @@ beside_as_read v w read told xs some from p n version is_read is h first rest =
     beside_read w read xs from p n h (subst (λ u. IsBesideFrom 0 u read p n) version (subst (λ l. IsBesideFrom 0 v l p n) is_read first))
     (subst (λ u. IsBesideFrom from u xs p n) version (subst (λ l. IsBesideFrom from v l p n) is rest))
 
-pub alone_as : (v w : Version) (read told ds fs : List ℕ) (p n : ℕ) → v ≡ w → read ≡ told → ((s : ℕ) → IsNoneOf ds s → IsNoneOf fs s → IsNoneOf read s) → IsBeside v ds p n → IsBeside v fs p n → IsBesideFrom 0 w told p n
+pub alone_as : (v w : Version) (read told ds fs : List ℕ) (p n : ℕ) → v ≡ w → read ≡ told → ((s : ℕ) → IsNotIn ds s → IsNotIn fs s → IsNotIn read s) → IsBeside v ds p n → IsBeside v fs p n → IsBesideFrom 0 w told p n
 alone_as v w read told ds fs p n version is alone no_ds no_fs =
     subst (λ u. IsBesideFrom 0 u told p n) version (subst (λ l. IsBesideFrom 0 v l p n) is (beside_alone v read ds fs p n alone no_ds no_fs))
 
@@ -89,7 +89,7 @@ rest_as v w xs some from p n version is beside =
     subst (λ u. IsBesideFrom from u some p n) version (subst (λ l. IsBesideFrom from v l p n) is (λ k later inside. beside k inside))
 
 -- a sector beside these is none of them
-pub none_aside : (v : Version) (xs : List ℕ) (n : ℕ) → IsBeside v xs (sector_start v n) (sector_len v) → IsNoneOf xs n
+pub none_aside : (v : Version) (xs : List ℕ) (n : ℕ) → IsBeside v xs (sector_start v n) (sector_len v) → IsNotIn xs n
 none_aside v xs n beside k inside same = ⊎_elim
     (λ before. apart_never v n (get_or xs k 0) same (inl before))
     (λ behind. apart_never v n (get_or xs k 0) same (inr behind))

@@ -14,7 +14,7 @@ use Rattle.cfb_medium.specs.declared.version.Version.{Version}
 use Rattle.cfb_medium.specs.declared.version.Version.TheVariants.{V3, V4}
 use Rattle.cfb_sectors.specs.Header.{header_difat}
 use Rattle.cfb_sectors.specs.Sectors.{difat, filled_part, sector, sector_start}
-use Rattle.cfb_chains.specs.Changes.{AreOnce}
+use Rattle.cfb_chains.specs.Changes.{AreDistinct}
 use Rattle.cfb_fat.proofs.FatEntries.{get_number, length-numbers, per}
 use Rattle.cfb_chains.proofs.Overwriting.{beside, length-filled, written}
 use Rattle.cfb_fat.proofs.Words.{filled_in, filled_is}
@@ -181,7 +181,7 @@ last_inside V3 = omega arith
 last_inside V4 = omega arith
 
 -- two entries don't stand at one place
-pub places_apart : (v : Version) (ds : List ℕ) (k q m r : ℕ) → AreOnce ds → StandsAt v ds k q → StandsAt v ds m r → k ≢ m → q ≢ r
+pub places_apart : (v : Version) (ds : List ℕ) (k q m r : ℕ) → AreDistinct ds → StandsAt v ds k q → StandsAt v ds m r → k ≢ m → q ≢ r
 places_apart v ds k q m r once at_k at_m differ same = ⊎_elim
     (λ a. ⊎_elim
     (λ b. differ (omega (arith, a.1, b.1, same)))
@@ -230,7 +230,7 @@ one_place v ds k m q r at_k at_m same = ⊎_elim
     at_k
 
 -- one entry is set
-pub difat_set : (v : Version) (old new ds : List ℕ) (k q x : ℕ) → 512 ≤ length old → 512 ≤ length new → AreOnce ds → k < 109 + length ds * (per v - 1) → StandsAt v ds k q → word new q ≡ x
+pub difat_set : (v : Version) (old new ds : List ℕ) (k q x : ℕ) → 512 ≤ length old → 512 ≤ length new → AreDistinct ds → k < 109 + length ds * (per v - 1) → StandsAt v ds k q → word new q ≡ x
     → ((m r : ℕ) → StandsAt v ds m r → q ≢ r → word new r ≡ word old r) → difat v new ds ≡ set (difat v old ds) k x
 difat_set v old new ds k q x in_old in_new once below at here others =
     let size = length-difat v new ds in_new in

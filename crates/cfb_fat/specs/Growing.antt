@@ -2,7 +2,7 @@
 use Rattle.std.specs.Prelude.{◌≡◌, ℕ, ◌+◌, ◌-◌, ◌*◌, ◌/◌, ◌<◌, ◌≤◌, ◌⊎◌, false, true, List, length, nat_eq, vec_capacity, IfErr, IsTrue, OnOk, Result}
 use Rattle.cfb_medium.specs.declared.error.Error.{Error}
 use Rattle.std.specs.List.{count_by, AllByRecursion}
-use Rattle.cfb_medium.specs.Calls.{Extends}
+use Rattle.cfb_medium.specs.Calls.{Reaches}
 use Rattle.cfb_medium.specs.Versions.{sector_len}
 use Rattle.cfb_medium.specs.declared.medium.ReadMedium.{Ghosts}
 use Rattle.cfb_sectors.specs.Held as held
@@ -10,22 +10,22 @@ use Rattle.cfb_sectors.specs.Sectors.{filled_part, free, greatest_regular, secto
 use Rattle.cfb_sectors.specs.declared.sectors.Sectors.{Sectors}
 use Rattle.cfb_fat.specs.declared.allocator.Allocator.{Allocator}
 use Rattle.cfb_chains.specs.Behind.{AreWhole, IsMarkedBehind}
-use Rattle.cfb_chains.specs.Changes.{IsBeside, IsFreeIn, IsNoneOf, StayBut}
-use Rattle.cfb_fat.specs.Listed.{IsWhole}
+use Rattle.cfb_chains.specs.Changes.{IsBeside, IsFreeIn, IsNotIn, SameExceptAt}
+use Rattle.cfb_fat.specs.Listed.{EndsAtSector}
 use Rattle.cfb_fat.specs.Orderly.{AreLean, IsBesideWords}
-use Rattle.cfb_fat.specs.Tables.{bytes_of, capacity_of, difat_sectors_of, fat_of, fat_sectors_of, has_failed_here, is_honest, medium_of, orderly_of, runs_of, sectors_of, tables_of, version_of, HasEnds, IsTold}
+use Rattle.cfb_fat.specs.Tables.{bytes_of, capacity_of, difat_sectors_of, fat_of, fat_sectors_of, has_failed_here, is_honest, medium_of, orderly_of, runs_of, sectors_of, tables_of, version_of, HasEnds, HeaderCountsTables}
 
 module _ {F : Type 0} {g : Ghosts F} where
   -- where it has not failed one sector was appended, whole, and what lies before it stays but where this says so; nothing was
   -- published
   pub record Appends (stays : ℕ → ℕ → Type 0) (old new : Sectors F g) : Type 0 where
     pub honest : g.honest (held.medium_of new) ≡ g.honest (held.medium_of old)
-    pub continues : Extends g.continues (held.medium_of old) (held.medium_of new)
+    pub continues : Reaches g.continues (held.medium_of old) (held.medium_of new)
     pub version : held.version_of new ≡ held.version_of old
     pub live : held.has_failed_here new ≡ false → held.has_failed_here old ≡ false
     pub count : held.has_failed_here new ≡ false → held.count_of new ≡ held.count_of old + 1
     pub longer : held.has_failed_here new ≡ false → held.IsHonest old → length (held.bytes_of old) ≤ length (held.bytes_of new)
-    pub whole : held.has_failed_here new ≡ false → held.IsHonest old → IsWhole (held.version_of old) (held.bytes_of new)
+    pub whole : held.has_failed_here new ≡ false → held.IsHonest old → EndsAtSector (held.version_of old) (held.bytes_of new)
     pub before : held.has_failed_here new ≡ false → held.IsHonest old → (place count : ℕ) → place + count ≤ sector_start (held.version_of old) (held.count_of old) → stays place count
         → filled_part (held.bytes_of new) place count ≡ filled_part (held.bytes_of old) place count
 
@@ -43,17 +43,17 @@ module _ {F : Type 0} {g : Ghosts F} where
   -- lean are lean with the taken sectors; nothing was published
   pub record GrowsFat (taken entries : List ℕ) (old new : Allocator F g) : Type 0 where
     pub honest : g.honest (medium_of new) ≡ g.honest (medium_of old)
-    pub continues : Extends g.continues (medium_of old) (medium_of new)
+    pub continues : Reaches g.continues (medium_of old) (medium_of new)
     pub version : version_of new ≡ version_of old
     pub live : has_failed_here new ≡ false → has_failed_here old ≡ false
     pub count : has_failed_here new ≡ false → held.count_of (sectors_of old) ≤ held.count_of (sectors_of new)
     pub orderly : has_failed_here new ≡ false → orderly_of new ≡ orderly_of old
-    pub fat : has_failed_here new ≡ false → StayBut entries (fat_of old) (fat_of new)
+    pub fat : has_failed_here new ≡ false → SameExceptAt entries (fat_of old) (fat_of new)
     pub tables : has_failed_here new ≡ false → (place count : ℕ) → place + count ≤ sector_start (version_of old) (held.count_of (sectors_of old)) → IsBeside (version_of old) (tables_of old) place count → IsBeside (version_of old) (tables_of new) place count
-    pub still : has_failed_here new ≡ false → (n : ℕ) → (IsNoneOf (difat_sectors_of new) n → IsNoneOf (difat_sectors_of old) n) × (IsNoneOf (fat_sectors_of new) n → IsNoneOf (fat_sectors_of old) n)
+    pub still : has_failed_here new ≡ false → (n : ℕ) → (IsNotIn (difat_sectors_of new) n → IsNotIn (difat_sectors_of old) n) × (IsNotIn (fat_sectors_of new) n → IsNotIn (fat_sectors_of old) n)
     pub longer : has_failed_here new ≡ false → IsTrue (is_honest old) → length (bytes_of old) ≤ length (bytes_of new)
     pub lean : has_failed_here new ≡ false → (content : ℕ) → IsLean old content → IsLean new (content + length taken)
-    pub told : has_failed_here new ≡ false → IsTrue (is_honest old) → IsTold old ⊎ (length (tables_of old) < length (tables_of new)) → IsTold new
+    pub told : has_failed_here new ≡ false → IsTrue (is_honest old) → HeaderCountsTables old ⊎ (length (tables_of old) < length (tables_of new)) → HeaderCountsTables new
     pub ends : has_failed_here new ≡ false → IsTrue (is_honest old) → IsTrue (orderly_of old) → HasEnds old → HasEnds new
     pub beside : has_failed_here new ≡ false → IsTrue (is_honest old) → (place count : ℕ) → place + count ≤ sector_start (version_of old) (held.count_of (sectors_of old))
         → IsBeside (version_of old) (tables_of old) place count → IsBesideWords place count → IsBeside (version_of old) taken place count
@@ -68,7 +68,7 @@ module _ {F : Type 0} {g : Ghosts F} where
   HasWhole taken it = AreWhole (version_of it) (bytes_of it) taken
 
   -- so it is, and these sectors, which were in no use, were taken into use; none came out of use
-  pub record TakesIn (taken entries : List ℕ) (old new : Allocator F g) : Type 0 where
+  pub record AllocatesSectors (taken entries : List ℕ) (old new : Allocator F g) : Type 0 where
     pub grows : GrowsFat taken entries old new
     pub free : has_failed_here new ≡ false → AllByRecursion (IsFreeIn (fat_of old)) taken
     pub used : has_failed_here new ≡ false → (n : ℕ) → IsFreeIn (fat_of new) n → IsFreeIn (fat_of old) n
@@ -100,5 +100,5 @@ module _ {F : Type 0} {g : Ghosts F} where
   KeepsMemory old new = (entries n : ℕ) → HasMemory old entries n → HasMemory new entries n
 
   -- fewer numbers of sectors are left than this: those of "free" entries, and those behind the FAT
-  abbrev pub LacksNumbers : Allocator F g → ℕ → Type 0
-  LacksNumbers it count = greatest_regular + 1 + count_by (λ entry. nat_eq entry free) (fat_of it) < length (fat_of it) + count
+  abbrev pub LacksSectorNumbers : Allocator F g → ℕ → Type 0
+  LacksSectorNumbers it count = greatest_regular + 1 + count_by (λ entry. nat_eq entry free) (fat_of it) < length (fat_of it) + count

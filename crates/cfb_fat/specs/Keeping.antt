@@ -3,7 +3,7 @@ use Rattle.std.specs.Prelude.{◌≡◌, ℕ, ◌+◌, ◌≤◌, ◌||◌, fals
 use Rattle.std.specs.List.{AllByRecursion}
 use Rattle.std.proofs.Common.{◌∙◌, ap, arith, inl, length-append, inr, le_of_eq, le_trans, sym, subst, ⊎_elim}
 use Rattle.cfb_medium.specs.Bytes.{overwritten}
-use Rattle.cfb_medium.specs.Calls.{HasCause}
+use Rattle.cfb_medium.specs.Calls.{IsJustifiedError}
 use Rattle.cfb_medium.specs.declared.error.Error.{Error}
 use Rattle.cfb_medium.specs.declared.error.Error.TheVariants.{Device, Failed}
 use Rattle.cfb_medium.specs.declared.version.Version.{Version}
@@ -15,12 +15,12 @@ use Rattle.cfb_sectors.specs.Sectors.{filled_part, sector_start}
 use Rattle.cfb_fat.specs.declared.allocator.Allocator.{Allocator}
 use Rattle.cfb_chains.proofs.Beside.{beside_both, beside_first, beside_second, free_then, start_later, stay_same, stay_then}
 use Rattle.cfb_fat.specs.Changing.{ChangesFat, MayWrite, WritesBeside}
-use Rattle.cfb_fat.specs.Growing.{GrowsFat, IsLean, TakesIn}
+use Rattle.cfb_fat.specs.Growing.{GrowsFat, IsLean, AllocatesSectors}
 use Rattle.cfb_chains.proofs.LongerTables.{holds_again, holds_then, marked_none, marked_then, never, whole_then}
-use Rattle.cfb_chains.specs.Changes.{DifferAt, IsBeside, IsFreeIn, IsNoneOf, StayBut}
-use Rattle.cfb_fat.specs.Listed.{Ends}
+use Rattle.cfb_chains.specs.Changes.{DifferOnlyAt, IsBeside, IsFreeIn, IsNotIn, SameExceptAt}
+use Rattle.cfb_fat.specs.Listed.{EndsAsStrict}
 use Rattle.cfb_fat.specs.Orderly.{AreLean, IsBesideWords}
-use Rattle.cfb_fat.specs.Tables.{bytes_of, difat_sectors_of, fat_of, fat_sectors_of, has_failed_here, is_honest, medium_of, orderly_of, sectors_of, tables_of, version_of, AllFails, AllRests, HasCauseBelow, HasEnds, IsTold}
+use Rattle.cfb_fat.specs.Tables.{bytes_of, difat_sectors_of, fat_of, fat_sectors_of, has_failed_here, is_honest, medium_of, orderly_of, sectors_of, tables_of, version_of, AllFails, OnlyReadsAllocator, IsJustifiedBySectors, HasEnds, HeaderCountsTables}
 
 -- a part of what is beside others is beside them
 beside_part : (v : Version) (sectors : List ℕ) (place count part size : ℕ) → IsBeside v sectors place count → place ≤ part → part + size ≤ place + count → IsBeside v sectors part size
@@ -50,27 +50,27 @@ lean_same v w count fat_count difat_count content later fat_later difat_later mo
     (subst (λ n. AreLean v count fat_count n content) (sym difat) lean))))
 
 module _ {F : Type 0} {g : Ghosts F} where
-  pub rests_keep : (a b : Allocator F g) → AllRests a b → (is_honest b ≡ is_honest a) × (has_failed_here b ≡ has_failed_here a) × (IsTrue (is_honest a) → bytes_of b ≡ bytes_of a)
+  pub rests_keep : (a b : Allocator F g) → OnlyReadsAllocator a b → (is_honest b ≡ is_honest a) × (has_failed_here b ≡ has_failed_here a) × (IsTrue (is_honest a) → bytes_of b ≡ bytes_of a)
   rests_keep a b h = sectors.rests_keep a.sectors b.sectors h.sectors
 
-  pub rests_cause : (a b c : Allocator F g) (e : Error) → AllRests a b → HasCauseBelow b c e → HasCauseBelow a c e
+  pub rests_cause : (a b c : Allocator F g) (e : Error) → OnlyReadsAllocator a b → IsJustifiedBySectors b c e → IsJustifiedBySectors a c e
   rests_cause a b c e h = sectors.rests_cause a.sectors b.sectors c.sectors e h.sectors
 
   -- an error that is no device's has no cause but an earlier fault
-  pub own_cause : (a b : Allocator F g) (e : Error) → (e ≡ Device → ⊥) → (e ≡ Failed → has_failed_here a ≡ true) → HasCauseBelow a b e
+  pub own_cause : (a b : Allocator F g) (e : Error) → (e ≡ Device → ⊥) → (e ≡ Failed → has_failed_here a ≡ true) → IsJustifiedBySectors a b e
   own_cause a b = sectors.own_cause a.sectors b.sectors
 
   pub fails_keep : (a b : Allocator F g) → AllFails a b → (is_honest b ≡ is_honest a) × (has_failed_here b ≡ true)
   fails_keep a b h = sectors.fails_keep a.sectors b.sectors h.sectors
 
-  pub fails_cause : (a b c : Allocator F g) (e : Error) → HasCauseBelow a b e → AllFails b c → HasCauseBelow a c e
+  pub fails_cause : (a b c : Allocator F g) (e : Error) → IsJustifiedBySectors a b e → AllFails b c → IsJustifiedBySectors a c e
   fails_cause a b c e cause h = sectors.fails_cause a.sectors b.sectors c.sectors e cause h.sectors
 
   pub writes_keep : (place : ℕ) (written : List ℕ) (a b : Allocator F g) → WritesBeside place written a b
       → (is_honest b ≡ is_honest a) × (has_failed_here b ≡ false → (has_failed_here a ≡ false) × (IsTrue (is_honest a) → bytes_of b ≡ overwritten (bytes_of a) place written))
   writes_keep place written a b h = sectors.writes_keep place written a.sectors b.sectors h.sectors
 
-  pub writes_cause : (place : ℕ) (written : List ℕ) (a b c : Allocator F g) (e : Error) → WritesBeside place written a b → has_failed_here b ≡ false → HasCauseBelow b c e → HasCauseBelow a c e
+  pub writes_cause : (place : ℕ) (written : List ℕ) (a b c : Allocator F g) (e : Error) → WritesBeside place written a b → has_failed_here b ≡ false → IsJustifiedBySectors b c e → IsJustifiedBySectors a c e
   writes_cause place written a b c e h = sectors.writes_cause place written a.sectors b.sectors c.sectors e h.sectors
 
   -- what may be written whole may be written in part
@@ -92,12 +92,12 @@ module _ {F : Type 0} {g : Ghosts F} where
   }
 
   pub changes_keep : (entries : List ℕ) (a b : Allocator F g) → ChangesFat entries a b → (is_honest b ≡ is_honest a)
-      × (has_failed_here b ≡ false → (has_failed_here a ≡ false) × DifferAt entries (fat_of a) (fat_of b)
+      × (has_failed_here b ≡ false → (has_failed_here a ≡ false) × DifferOnlyAt entries (fat_of a) (fat_of b)
       × ((place count : ℕ) → MayWrite a place count → MayWrite b place count)
       × (IsTrue (is_honest a) → (place count : ℕ) → MayWrite a place count → filled_part (bytes_of b) place count ≡ filled_part (bytes_of a) place count))
   changes_keep entries a b h = (h.honest, λ live. (h.live live, h.fat live, may_still a b h.version h.count h.fat_sectors h.difat_sectors, λ honest place count may. h.beside live honest place count may.fat))
 
-  pub rests_keep_tables : (a b : Allocator F g) → AllRests a b → (fat_of b ≡ fat_of a) × (orderly_of b ≡ orderly_of a) × ((place count : ℕ) → MayWrite a place count → MayWrite b place count)
+  pub rests_keep_tables : (a b : Allocator F g) → OnlyReadsAllocator a b → (fat_of b ≡ fat_of a) × (orderly_of b ≡ orderly_of a) × ((place count : ℕ) → MayWrite a place count → MayWrite b place count)
   rests_keep_tables a b h = (h.fat, h.orderly, may_still a b h.sectors.version h.sectors.count h.fat_sectors h.difat_sectors)
 
   pub writes_keep_tables : (place : ℕ) (written : List ℕ) (a b : Allocator F g) → WritesBeside place written a b → (fat_of b ≡ fat_of a) × (orderly_of b ≡ orderly_of a)
@@ -115,8 +115,8 @@ module _ {F : Type 0} {g : Ghosts F} where
         words = may.words;
       }
 
-  pub takes_keep : (taken entries : List ℕ) (a b : Allocator F g) → TakesIn taken entries a b → (is_honest b ≡ is_honest a) × (version_of b ≡ version_of a)
-      × (has_failed_here b ≡ false → (has_failed_here a ≡ false) × AllByRecursion (IsFreeIn (fat_of a)) taken × StayBut entries (fat_of a) (fat_of b)
+  pub takes_keep : (taken entries : List ℕ) (a b : Allocator F g) → AllocatesSectors taken entries a b → (is_honest b ≡ is_honest a) × (version_of b ≡ version_of a)
+      × (has_failed_here b ≡ false → (has_failed_here a ≡ false) × AllByRecursion (IsFreeIn (fat_of a)) taken × SameExceptAt entries (fat_of a) (fat_of b)
       × ((place count : ℕ) → MayWrite a place count → MayWrite b place count)
       × (IsTrue (is_honest a) → (place count : ℕ) → MayWrite a place count → IsBeside (version_of a) taken place count → filled_part (bytes_of b) place count ≡ filled_part (bytes_of a) place count)
       × (orderly_of b ≡ orderly_of a))
@@ -137,24 +137,24 @@ module _ {F : Type 0} {g : Ghosts F} where
   tables_same a b difat fat = ap (λ l. l ++ fat_sectors_of b) difat ∙ ap (λ l. difat_sectors_of a ++ l) fat
 
   -- the header's numbers stay right
-  pub told_same : (a b : Allocator F g) → bytes_of b ≡ bytes_of a → difat_sectors_of b ≡ difat_sectors_of a → fat_sectors_of b ≡ fat_sectors_of a → IsTold a → IsTold b
+  pub told_same : (a b : Allocator F g) → bytes_of b ≡ bytes_of a → difat_sectors_of b ≡ difat_sectors_of a → fat_sectors_of b ≡ fat_sectors_of a → HeaderCountsTables a → HeaderCountsTables b
   told_same a b bytes difat fat h = record {
     difat_count = ap difat_sector_count bytes ∙ h.difat_count ∙ ap length (sym difat);
     fat_count = ap fat_sector_count bytes ∙ h.fat_count ∙ ap length (sym fat);
   }
 
   -- file and DIFAT end as they did
-  pub ends_rest : (a b : Allocator F g) → AllRests a b → IsTrue (is_honest a) → HasEnds a → HasEnds b
+  pub ends_rest : (a b : Allocator F g) → OnlyReadsAllocator a b → IsTrue (is_honest a) → HasEnds a → HasEnds b
   ends_rest a b h honest ends =
-      subst (λ v. Ends v (bytes_of b) (difat_sectors_of b)) (sym h.sectors.version) (subst (λ l. Ends (version_of a) l (difat_sectors_of b)) (sym (h.sectors.bytes honest))
-      (subst (Ends (version_of a) (bytes_of a)) (sym h.difat_sectors) ends))
+      subst (λ v. EndsAsStrict v (bytes_of b) (difat_sectors_of b)) (sym h.sectors.version) (subst (λ l. EndsAsStrict (version_of a) l (difat_sectors_of b)) (sym (h.sectors.bytes honest))
+      (subst (EndsAsStrict (version_of a) (bytes_of a)) (sym h.difat_sectors) ends))
 
   -- tables that are the same are as lean
   pub lean_kept : (taken : List ℕ) (a b : Allocator F g) → version_of b ≡ version_of a → length (fat_of b) ≡ length (fat_of a) → fat_sectors_of b ≡ fat_sectors_of a → difat_sectors_of b ≡ difat_sectors_of a
       → (content : ℕ) → IsLean a content → IsLean b (content + length taken)
   lean_kept taken a b version size fat difat content lean = lean_same (version_of a) (version_of b) _ _ _ content _ _ _ _ version size (ap length fat) (ap length difat) (omega arith) lean
 
-  pub takes_rest : (entries : List ℕ) (a b : Allocator F g) → AllRests a b → TakesIn [] entries a b
+  pub takes_rest : (entries : List ℕ) (a b : Allocator F g) → OnlyReadsAllocator a b → AllocatesSectors [] entries a b
   takes_rest entries a b h = record {
     grows = record {
       honest = h.sectors.honest;
@@ -165,7 +165,7 @@ module _ {F : Type 0} {g : Ghosts F} where
       orderly = λ live. h.orderly;
       fat = λ live. stay_same entries (fat_of a) (fat_of b) h.fat;
       tables = λ live place count fits apart. subst (λ l. IsBeside (version_of a) l place count) (sym (tables_same a b h.difat_sectors h.fat_sectors)) apart;
-      still = λ live n. (subst (λ l. IsNoneOf l n) h.difat_sectors, subst (λ l. IsNoneOf l n) h.fat_sectors);
+      still = λ live n. (subst (λ l. IsNotIn l n) h.difat_sectors, subst (λ l. IsNotIn l n) h.fat_sectors);
       longer = λ live honest. le_of_eq (ap length (sym (h.sectors.bytes honest)));
       lean = λ live. lean_kept [] a b h.sectors.version (ap length h.fat) h.fat_sectors h.difat_sectors;
       told = λ live honest. holds_then (tables_of a) (tables_of b) (tables_same a b h.difat_sectors h.fat_sectors) (λ told. told_same a b (h.sectors.bytes honest) h.difat_sectors h.fat_sectors told);
@@ -207,7 +207,7 @@ module _ {F : Type 0} {g : Ghosts F} where
             ∙ h.beside (k.live live) honest place count fits apart words (beside_first v taken more place count aside);
       }
 
-  pub takes_then : (taken entries more others : List ℕ) (a b c : Allocator F g) → TakesIn taken entries a b → TakesIn more others b c → TakesIn (taken ++ more) (entries ++ others) a c
+  pub takes_then : (taken entries more others : List ℕ) (a b c : Allocator F g) → AllocatesSectors taken entries a b → AllocatesSectors more others b c → AllocatesSectors (taken ++ more) (entries ++ others) a c
   takes_then taken entries more others a b c h k = record {
     grows = grows_then taken entries more others a b c h.grows k.grows;
     free = λ live. free_then (fat_of a) (fat_of b) taken more (h.used (k.grows.live live)) (h.free (k.grows.live live)) (k.free live);
@@ -218,7 +218,7 @@ module _ {F : Type 0} {g : Ghosts F} where
   }
 
   -- of one that has failed nothing more is said
-  pub takes_fails : (taken entries : List ℕ) (a b c : Allocator F g) → TakesIn taken entries a b → AllFails b c → TakesIn taken entries a c
+  pub takes_fails : (taken entries : List ℕ) (a b c : Allocator F g) → AllocatesSectors taken entries a b → AllFails b c → AllocatesSectors taken entries a c
   takes_fails taken entries a b c h k = let is_set = k.sectors.failed in record {
     grows = record {
       honest = ap g.honest k.sectors.medium ∙ h.grows.honest;
@@ -242,6 +242,6 @@ module _ {F : Type 0} {g : Ghosts F} where
     whole = never (has_failed_here c) is_set;
   }
 
-  pub takes_cause : (taken entries : List ℕ) (a b c : Allocator F g) (e : Error) → TakesIn taken entries a b → has_failed_here b ≡ false → HasCauseBelow b c e → HasCauseBelow a c e
+  pub takes_cause : (taken entries : List ℕ) (a b c : Allocator F g) (e : Error) → AllocatesSectors taken entries a b → has_failed_here b ≡ false → IsJustifiedBySectors b c e → IsJustifiedBySectors a c e
   takes_cause taken entries a b c e h live cause =
-      λ start from. subst (λ f. HasCause g.failures (λ m. f || g.failed m) start (medium_of c) e) (live ∙ sym (h.grows.live live)) (cause start (h.grows.continues start from))
+      λ start from. subst (λ f. IsJustifiedError g.failures (λ m. f || g.failed m) start (medium_of c) e) (live ∙ sym (h.grows.live live)) (cause start (h.grows.continues start from))

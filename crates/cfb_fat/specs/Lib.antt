@@ -5,7 +5,7 @@ pub mod HeaderWords
 pub mod Keeping
 pub mod Listed
 pub mod Orderly
-pub mod Resting
+pub mod OnlyReads
 pub mod Rising
 pub mod Seeing
 pub mod Tables

@@ -29,10 +29,10 @@ pub record Counts (bytes difat_sectors fat_sectors : List ℕ) : Type 0 where
   pub fat_count : fat_sector_count bytes ≡ length fat_sectors
 
 -- the file ends where a sector does ([MS-CFB] 2.1)
-abbrev pub IsWhole : Version → List ℕ → Type 0
-IsWhole version bytes = length bytes % sector_len version ≡ 0
+abbrev pub EndsAtSector : Version → List ℕ → Type 0
+EndsAtSector version bytes = length bytes % sector_len version ≡ 0
 
 -- so it does, and the DIFAT's chain behind these sectors is at "end of chain" ([MS-CFB] 2.5)
-pub record Ends (version : Version) (bytes difat_sectors : List ℕ) : Type 0 where
-  pub whole : IsWhole version bytes
+pub record EndsAsStrict (version : Version) (bytes difat_sectors : List ℕ) : Type 0 where
+  pub whole : EndsAtSector version bytes
   pub stop : stop_behind version bytes (first_difat_sector bytes) difat_sectors ≡ end_of_chain

@@ -2,7 +2,7 @@
 use Rattle.std.specs.Prelude.{◌≡◌, ℕ, ◌+◌, ◌-◌, ◌*◌, ◌/◌, ◌<◌, ◌≤◌, ◌⊎◌, List, ◌++◌, length, slice_index}
 use Rattle.cfb_medium.specs.declared.version.Version.{Version}
 use Rattle.cfb_medium.specs.Versions.{sector_len}
-use Rattle.cfb_chains.specs.Changes.{AreOnce}
+use Rattle.cfb_chains.specs.Changes.{AreDistinct}
 
 -- each is below this
 abbrev pub AreBelow : ℕ → List ℕ → Type 0
@@ -15,8 +15,8 @@ named_at_most version difat_count = 109 + difat_count * (sector_len version / 4 
 
 -- the tables of a file of so many sectors can be changed: no sector holds two parts of them, the DIFAT's are there and can
 -- name as many as the FAT has, and the FAT has an entry for each sector, of which there is one
-pub record IsOrderly (version : Version) (count : ℕ) (fat fat_sectors difat_sectors : List ℕ) : Type 0 where
-  pub once : AreOnce (difat_sectors ++ fat_sectors)
+pub record AreTablesConsistent (version : Version) (count : ℕ) (fat fat_sectors difat_sectors : List ℕ) : Type 0 where
+  pub once : AreDistinct (difat_sectors ++ fat_sectors)
   pub covered : length fat ≡ count
   pub some : 0 < count
   pub there : AreBelow count difat_sectors

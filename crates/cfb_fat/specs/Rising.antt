@@ -2,7 +2,7 @@
 use Rattle.std.specs.Prelude.{◌≡◌, ℕ, ◌+◌, ◌<◌, ◌≤◌, ◌⊎◌, List, length, slice_index}
 use Rattle.cfb_medium.specs.declared.version.Version.{Version}
 use Rattle.cfb_medium.specs.Versions.{sector_len}
-use Rattle.cfb_chains.specs.Changes.{IsNoneOf}
+use Rattle.cfb_chains.specs.Changes.{IsNotIn}
 use Rattle.cfb_sectors.specs.Sectors.{sector_start}
 
 -- from an index on these rise, or stay
@@ -17,5 +17,5 @@ IsBesideFrom from version sectors place count =
 -- in front of an index each is one of those that were read, and from there on they rise
 pub record AreRead (read : List ℕ) (from : ℕ) (xs : List ℕ) : Type 0 where
   pub inside : from ≤ length xs
-  pub front : (k : ℕ) → k < from → IsNoneOf read (slice_index xs k) → ⊥
+  pub front : (k : ℕ) → k < from → IsNotIn read (slice_index xs k) → ⊥
   pub rest : RiseFrom from xs

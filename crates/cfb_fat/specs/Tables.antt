@@ -4,9 +4,9 @@ use Rattle.cfb_medium.specs.declared.error.Error.{Error}
 use Rattle.cfb_medium.specs.declared.medium.ReadMedium.{Ghosts}
 use Rattle.cfb_medium.specs.declared.version.Version.{Version}
 use Rattle.cfb_fat.specs.declared.allocator.Allocator.{Allocator}
-use Rattle.cfb_fat.specs.Listed.{Counts, Ends}
+use Rattle.cfb_fat.specs.Listed.{Counts, EndsAsStrict}
 use Rattle.cfb_sectors.specs.declared.sectors.Sectors.{Sectors}
-use Rattle.cfb_runs.specs.Tables.{entries_of, run_capacity, run_count}
+use Rattle.cfb_fat_runs.specs.Tables.{entries_of, run_capacity, run_count}
 use Rattle.cfb_sectors.specs.Held as held
 
 module _ {F : Type 0} {g : Ghosts F} where
@@ -56,20 +56,20 @@ module _ {F : Type 0} {g : Ghosts F} where
   tables_of it = difat_sectors_of it ++ fat_sectors_of it
 
   -- the header's numbers of these are right
-  abbrev pub IsTold : Allocator F g → Type 0
-  IsTold it = Counts (bytes_of it) (difat_sectors_of it) (fat_sectors_of it)
+  abbrev pub HeaderCountsTables : Allocator F g → Type 0
+  HeaderCountsTables it = Counts (bytes_of it) (difat_sectors_of it) (fat_sectors_of it)
 
   -- the file and its DIFAT end as a strict reader asks for ([MS-CFB] 2.1, 2.5)
   abbrev pub HasEnds : Allocator F g → Type 0
-  HasEnds it = Ends (version_of it) (bytes_of it) (difat_sectors_of it)
+  HasEnds it = EndsAsStrict (version_of it) (bytes_of it) (difat_sectors_of it)
 
   -- whether its tables can be changed
   abbrev pub orderly_of : Allocator F g → Bool
   orderly_of it = it.is_orderly
 
   -- nothing but reads and flushes was done
-  pub record AllRests (old new : Allocator F g) : Type 0 where
-    pub sectors : held.Rests old.sectors new.sectors
+  pub record OnlyReadsAllocator (old new : Allocator F g) : Type 0 where
+    pub sectors : held.OnlyReadsSectors old.sectors new.sectors
     pub fat : fat_of new ≡ fat_of old
     pub fat_sectors : fat_sectors_of new ≡ fat_sectors_of old
     pub difat_sectors : difat_sectors_of new ≡ difat_sectors_of old
@@ -93,5 +93,5 @@ module _ {F : Type 0} {g : Ghosts F} where
     pub orderly : orderly_of new ≡ orderly_of old
 
   -- the error has its cause in the sectors
-  abbrev pub HasCauseBelow : Allocator F g → Allocator F g → Error → Type 0
-  HasCauseBelow old new error = held.HasItsCause old.sectors new.sectors error
+  abbrev pub IsJustifiedBySectors : Allocator F g → Allocator F g → Error → Type 0
+  IsJustifiedBySectors old new error = held.IsJustifiedByMedium old.sectors new.sectors error

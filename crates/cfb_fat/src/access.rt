@@ -1,14 +1,14 @@
 //! Reading, and writing beside the tables.
-ghost use Rattle.cfb_chains.specs.Owned.{Leaves};
+ghost use Rattle.cfb_chains.specs.Owned.{ChangesAtMost};
 ghost use Rattle.cfb_fat.specs.Changing.{MayWrite, WritesBeside};
 ghost use Rattle.cfb_fat.specs.Keeping.{fails_cause, fails_keep, may_part, own_cause, rests_cause, rests_keep, writes_cause, writes_keep};
 ghost use Rattle.cfb_fat.specs.Orderly.{IsBesideWords};
-ghost use Rattle.cfb_fat.specs.Resting.{all_rest_refl, all_rest_then};
+ghost use Rattle.cfb_fat.specs.OnlyReads.{all_rest_refl, all_rest_then};
 ghost use Rattle.cfb_fat.specs.Rising.{IsBesideFrom, RiseFrom};
-ghost use Rattle.cfb_medium.specs.Calls.{IsFaultUnless};
+ghost use Rattle.cfb_medium.specs.Calls.{IsFaultOrInvalidInputIf};
 ghost use Rattle.cfb_medium.specs.Versions.{sector_len};
 ghost use Rattle.cfb_medium.specs.declared.error.Error.TheVariants.{Failed, InvalidData};
-ghost use Rattle.cfb_sectors.specs.Held.{count_of, IsRefused, LiesIn};
+ghost use Rattle.cfb_sectors.specs.Held.{count_of, IsFailedOrNotThere, LiesIn};
 ghost use Rattle.cfb_sectors.specs.SectorViews.{part_len, part_position, part_start};
 ghost use Rattle.cfb_sectors.specs.Sectors.{filled_part, sector, sector_start};
 ghost use Rattle.std.specs.Prelude.{false, length, true, IfErr, IfOk, IsErrOf, IsTrue, OnErr, OnOk, ℕ, [], ◌∷◌, ◌*◌, ◌+◌, ◌<◌, ◌^◌, ◌↔◌, ◌≡◌, ◌≤◌, ◌⊎◌};
@@ -66,16 +66,16 @@ fn is_beside_words(place: u64, count: usize) -> bool
 }
 
 impl<F: ReadMedium> Allocator<F> {
-    ghost use Rattle.cfb_fat.specs.Tables.{bytes_of, has_failed_here, is_honest, sectors_of, version_of, AllRests, HasCauseBelow};
+    ghost use Rattle.cfb_fat.specs.Tables.{bytes_of, has_failed_here, is_honest, sectors_of, version_of, OnlyReadsAllocator, IsJustifiedBySectors};
 
     // Reads as the sectors do.
     fn read_filled(&mut self, place: u64, buffer: &mut [u8]) -> Result<(), Error>
         ensures read { OnOk result (IsTrue (is_honest self.old)
             → buffer.new ≡ filled_part (bytes_of self.old) place (length buffer.old)) }
-        ensures rests { AllRests self.old self.new }
-        ensures failed { has_failed_here self.old ≡ true → IsErrOf result Failed }
-        ensures cause { IfErr result (HasCauseBelow self.old self.new) }
-        ensures fault { IfErr result (IsFaultUnless ⊥) }
+        ensures only_reads { OnlyReadsAllocator self.old self.new }
+        ensures when_failed { has_failed_here self.old ≡ true → IsErrOf result Failed }
+        ensures cause { IfErr result (IsJustifiedBySectors self.old self.new) }
+        ensures errors { IfErr result (IsFaultOrInvalidInputIf ⊥) }
     {
         self.sectors.read_part(place, buffer)
     }
@@ -93,13 +93,13 @@ impl<F: ReadMedium> Allocator<F> {
             (sector_start (version_of self.old) sector_id + offset) (length buffer.old)) }
         ensures inside { OnOk result ((has_failed_here self.old ≡ false)
             × LiesIn (sectors_of self.old) sector_id offset (length buffer.old)) }
-        ensures failed { has_failed_here self.old ≡ true → IsErrOf result Failed }
-        ensures refused { IsErrOf result InvalidData
+        ensures when_failed { has_failed_here self.old ≡ true → IsErrOf result Failed }
+        ensures refused_only_if { IsErrOf result InvalidData
             ↔ ((has_failed_here self.old ≡ false) × (LiesIn (sectors_of self.old) sector_id offset
             (length buffer.old) → ⊥)) }
-        ensures rests { AllRests self.old self.new }
-        ensures cause { IfErr result (HasCauseBelow self.old self.new) }
-        ensures fault { IfErr result (λ e. IsFaultUnless ⊥ e ⊎ (e ≡ InvalidData)) }
+        ensures only_reads { OnlyReadsAllocator self.old self.new }
+        ensures cause { IfErr result (IsJustifiedBySectors self.old self.new) }
+        ensures errors { IfErr result (λ e. IsFaultOrInvalidInputIf ⊥ e ⊎ (e ≡ InvalidData)) }
     {
         self.sectors.read_contiguous(sector_id, offset, buffer)
     }
@@ -109,7 +109,8 @@ impl<F: ReadMedium> Allocator<F> {
         ensures part { IfOk result (λ it. (part_start it ≡ 0) × (part_len it ≡ 512)
             × (part_position it ≡ offset)) }
         ensures there { OnOk result ((has_failed_here self.now ≡ false) × (offset ≤ 512)) }
-        ensures error { IfErr result (IsRefused (has_failed_here self.now) (offset ≤ 512)) }
+        ensures errors { IfErr result
+            (IsFailedOrNotThere (has_failed_here self.now) (offset ≤ 512)) }
     {
         self.sectors.seek_within_header(offset)
     }
@@ -121,7 +122,7 @@ impl<F: ReadMedium> Allocator<F> {
             × (part_len it ≡ sector_len (version_of self.now)) × (part_position it ≡ 0)) }
         ensures there { OnOk result ((has_failed_here self.now ≡ false)
             × (sector_id < count_of (sectors_of self.now))) }
-        ensures error { IfErr result (IsRefused (has_failed_here self.now)
+        ensures errors { IfErr result (IsFailedOrNotThere (has_failed_here self.now)
             (sector_id < count_of (sectors_of self.now))) }
     {
         self.sectors.seek_to_sector(sector_id)
@@ -135,7 +136,7 @@ impl<F: ReadMedium> Allocator<F> {
         ensures there { OnOk result ((has_failed_here self.now ≡ false)
             × (sector_id < count_of (sectors_of self.now))
             × (offset ≤ sector_len (version_of self.now))) }
-        ensures error { IfErr result (IsRefused (has_failed_here self.now)
+        ensures errors { IfErr result (IsFailedOrNotThere (has_failed_here self.now)
             ((sector_id < count_of (sectors_of self.now))
             × (offset ≤ sector_len (version_of self.now)))) }
     {
@@ -157,7 +158,7 @@ impl<F: ReadMedium> Allocator<F> {
         ensures there { OnOk result ((has_failed_here self.now ≡ false)
             × (sector_id < count_of (sectors_of self.now))
             × (index * len + len ≤ sector_len (version_of self.now)) × (offset ≤ len)) }
-        ensures error { IfErr result (IsRefused (has_failed_here self.now)
+        ensures errors { IfErr result (IsFailedOrNotThere (has_failed_here self.now)
             ((sector_id < count_of (sectors_of self.now))
             × (index * len + len ≤ sector_len (version_of self.now)) × (offset ≤ len))) }
     {
@@ -197,7 +198,7 @@ impl<F: ReadMedium> Allocator<F> {
 
 impl<F: Medium> Allocator<F> {
     ghost use Rattle.cfb_fat.specs.Seeing.{seen_of};
-    ghost use Rattle.cfb_fat.specs.Tables.{has_failed_here, is_honest, sectors_of, version_of, AllRests, HasCauseBelow};
+    ghost use Rattle.cfb_fat.specs.Tables.{has_failed_here, is_honest, sectors_of, version_of, OnlyReadsAllocator, IsJustifiedBySectors};
 
     /// Writes over the bytes from an offset of a sector on, also those of the sectors behind it. `InvalidData` where so many
     /// bytes don't lie in the sectors, or one of them is of the tables; then nothing is changed. After a fault it has failed.
@@ -210,24 +211,25 @@ impl<F: Medium> Allocator<F> {
         ensures writes { OnOk result (WritesBeside
             (sector_start (version_of self.old) sector_id + offset) bytes.now self.old self.new) }
         ensures either { WritesBeside (sector_start (version_of self.old) sector_id + offset)
-            bytes.now self.old self.new ⊎ AllRests self.old self.new }
+            bytes.now self.old self.new ⊎ OnlyReadsAllocator self.old self.new }
         ensures leaves { OnOk result (offset + length bytes.now ≤ sector_len (version_of self.old)
-            → IsTrue (is_honest self.old) → Leaves (sector (version_of self.old)) []
+            → IsTrue (is_honest self.old) → ChangesAtMost (sector (version_of self.old)) []
             (sector_id ∷ []) (seen_of self.old) (seen_of self.new)) }
         ensures there { OnOk result ((sector_id < count_of (sectors_of self.old))
             × MayWrite self.old (sector_start (version_of self.old) sector_id + offset)
             (length bytes.now)) }
-        ensures refused { IsErrOf result InvalidData
+        ensures refused_only_if { IsErrOf result InvalidData
             ↔ ((has_failed_here self.old ≡ false) × ((sector_id < count_of (sectors_of self.old))
             × MayWrite self.old (sector_start (version_of self.old) sector_id + offset)
             (length bytes.now) → ⊥)) }
-        ensures rests { IsErrOf result InvalidData → AllRests self.old self.new }
-        ensures live { OnOk result ((has_failed_here self.old ≡ false)
+        ensures only_reads { IsErrOf result InvalidData → OnlyReadsAllocator self.old self.new }
+        ensures not_failed { OnOk result ((has_failed_here self.old ≡ false)
             × (has_failed_here self.new ≡ false)) }
-        ensures failed { has_failed_here self.old ≡ true
-            → IsErrOf result Failed × AllRests self.old self.new }
-        ensures cause { IfErr result (HasCauseBelow self.old self.new) }
-        ensures fault { IfErr result (λ e. (IsFaultUnless ⊥ e × (has_failed_here self.new ≡ true))
+        ensures when_failed { has_failed_here self.old ≡ true
+            → IsErrOf result Failed × OnlyReadsAllocator self.old self.new }
+        ensures cause { IfErr result (IsJustifiedBySectors self.old self.new) }
+        ensures errors { IfErr result
+            (λ e. (IsFaultOrInvalidInputIf ⊥ e × (has_failed_here self.new ≡ true))
             ⊎ (e ≡ InvalidData)) }
     {
         if self.sectors.is_failed() {
@@ -249,20 +251,20 @@ impl<F: Medium> Allocator<F> {
     pub(crate) fn write_beside(&mut self, place: u64, bytes: &[u8]) -> Result<(), Error>
         requires { MayWrite self.old place (length bytes.now) }
         ensures writes { WritesBeside place bytes.now self.old self.new }
-        ensures live { OnOk result ((has_failed_here self.old ≡ false)
+        ensures not_failed { OnOk result ((has_failed_here self.old ≡ false)
             × (has_failed_here self.new ≡ false)) }
-        ensures err { OnErr result (has_failed_here self.new ≡ true) }
-        ensures failed { has_failed_here self.old ≡ true
-            → IsErrOf result Failed × AllRests self.old self.new }
-        ensures cause { IfErr result (HasCauseBelow self.old self.new) }
-        ensures fault { IfErr result (IsFaultUnless ⊥) }
+        ensures after_error { OnErr result (has_failed_here self.new ≡ true) }
+        ensures when_failed { has_failed_here self.old ≡ true
+            → IsErrOf result Failed × OnlyReadsAllocator self.old self.new }
+        ensures cause { IfErr result (IsJustifiedBySectors self.old self.new) }
+        ensures errors { IfErr result (IsFaultOrInvalidInputIf ⊥) }
     {
         self.sectors.write_part(place, bytes)
     }
 }
 
 impl<F: ReadMedium> HasSectors for Allocator<F> {
-    ghost use Rattle.cfb_fat.specs.Tables.{bytes_of, has_failed_here, is_honest, AllRests, HasCauseBelow};
+    ghost use Rattle.cfb_fat.specs.Tables.{bytes_of, has_failed_here, is_honest, OnlyReadsAllocator, IsJustifiedBySectors};
 
     ghost bytes = { bytes_of };
 
@@ -270,9 +272,9 @@ impl<F: ReadMedium> HasSectors for Allocator<F> {
 
     ghost failed = { has_failed_here };
 
-    ghost rests = { AllRests };
+    ghost rests = { OnlyReadsAllocator };
 
-    ghost has_cause = { HasCauseBelow };
+    ghost has_cause = { IsJustifiedBySectors };
 
     fn is_failed(&self) -> bool {
         self.sectors.is_failed()

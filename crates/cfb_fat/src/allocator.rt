@@ -1,23 +1,23 @@
 //! The FAT in memory, over the sectors that hold it.
-ghost use Rattle.cfb_medium.specs.Calls.{Extends, HasCauseSince, IsCutOff, IsFaultUnless};
+ghost use Rattle.cfb_medium.specs.Calls.{Reaches, IsJustifiedSince, IsCutOff, IsFaultOrInvalidInputIf};
 ghost use Rattle.cfb_medium.specs.Versions.{sector_len};
 ghost use Rattle.cfb_medium.specs.declared.error.Error.TheVariants.{Failed, InvalidData, Memory};
-ghost use Rattle.cfb_chains.specs.Changes.{IsNoneOf};
+ghost use Rattle.cfb_chains.specs.Changes.{IsNotIn};
 ghost use Rattle.cfb_fat.specs.Listed.{Lists};
-ghost use Rattle.cfb_fat.specs.Orderly.{AreBelow, IsOrderly};
+ghost use Rattle.cfb_fat.specs.Orderly.{AreBelow, AreTablesConsistent};
 ghost use Rattle.cfb_fat.specs.Rising.{AreRead};
-ghost use Rattle.cfb_runs.specs.Longest.{runs_in, IsRunOf};
-ghost use Rattle.cfb_runs.specs.Tables.{entries_of};
-ghost use Rattle.cfb_sectors.specs.Held.{bytes_of as sectors_bytes, count_of as sectors_count, has_failed_here as sectors_failed, medium_of as sectors_medium, version_of as sectors_version, AreCounted, IsHonest as AreHonest, IsRefused, LeavesOldOrBytes, Rests};
-ghost use Rattle.cfb_sectors.specs.RollingBack.{RollsBack};
+ghost use Rattle.cfb_fat_runs.specs.Longest.{runs_in, IsRunOf};
+ghost use Rattle.cfb_fat_runs.specs.Tables.{entries_of};
+ghost use Rattle.cfb_sectors.specs.Held.{bytes_of as sectors_bytes, count_of as sectors_count, has_failed_here as sectors_failed, medium_of as sectors_medium, version_of as sectors_version, AreSectorNumbers, IsHonest as AreHonest, IsFailedOrNotThere, CrashLeavesOldOrBytes, OnlyReadsSectors};
+ghost use Rattle.cfb_sectors.specs.RollingBack.{MediumRollsBack};
 ghost use Rattle.cfb_sectors.specs.Sectors.{fat_in, free, Chain as IsChain};
 ghost use Rattle.std.specs.Prelude.{false, length, slice_get, slice_index, take, true, IfErr, IfOk, IsErrOf, IsTrue, List, MatchOption, None, OnErr, OnOk, Some, ℕ, ◌*◌, ◌++◌, ◌/◌, ◌<◌, ◌≡◌, ◌≤◌, ◌↔◌, ◌⊎◌, ◌||◌};
 
 use crate::fat::{both, read_parts};
 use crate::reading::ReadTables;
 use cfb_chains::Links;
+use cfb_fat_runs::Table;
 use cfb_medium::{Error, Medium, ReadMedium, Version};
-use cfb_runs::Table;
 use cfb_sectors::{HasSectors, Sectors};
 use std::alloc::Global;
 
@@ -37,17 +37,17 @@ pub struct Allocator<F: ReadMedium> {
     ghost there: { sectors_failed sectors ≡ false → AreBelow (sectors_count sectors) fat_sectors.items },
     ghost inside: { sectors_failed sectors ≡ false → length (entries_of fat) ≤ sectors_count sectors },
     ghost whole: { length (entries_of fat) ≤ length fat_sectors.items * (sector_len (sectors_version sectors) / 4) },
-    ghost orderly: { IsTrue is_orderly → IsOrderly (sectors_version sectors) (sectors_count sectors) (entries_of fat) fat_sectors.items difat_sectors.items },
-    ghost packed: { (k : ℕ) → k < first_free → slice_index (entries_of fat) k ≡ free → IsNoneOf difat_sectors.items k → IsNoneOf fat_sectors.items k → ⊥ },
+    ghost orderly: { IsTrue is_orderly → AreTablesConsistent (sectors_version sectors) (sectors_count sectors) (entries_of fat) fat_sectors.items difat_sectors.items },
+    ghost packed: { (k : ℕ) → k < first_free → slice_index (entries_of fat) k ≡ free → IsNotIn difat_sectors.items k → IsNotIn fat_sectors.items k → ⊥ },
     ghost read_difat: { AreRead read.ids.items read.num_difat difat_sectors.items },
     ghost read_fat: { AreRead read.ids.items read.num_fat fat_sectors.items },
-    ghost read_alone: { (n : ℕ) → IsNoneOf difat_sectors.items n → IsNoneOf fat_sectors.items n → IsNoneOf read.ids.items n },
+    ghost read_alone: { (n : ℕ) → IsNotIn difat_sectors.items n → IsNotIn fat_sectors.items n → IsNotIn read.ids.items n },
     ghost listed: { sectors_failed sectors ≡ false → AreHonest sectors → IsTrue is_orderly
-        ↔ (IsOrderly (sectors_version sectors) (sectors_count sectors) (entries_of fat) fat_sectors.items difat_sectors.items × ∥ Lists (sectors_version sectors) (sectors_bytes sectors) difat_sectors.items fat_sectors.items ∥₁) },
+        ↔ (AreTablesConsistent (sectors_version sectors) (sectors_count sectors) (entries_of fat) fat_sectors.items difat_sectors.items × ∥ Lists (sectors_version sectors) (sectors_bytes sectors) difat_sectors.items fat_sectors.items ∥₁) },
 }
 
 impl<F: ReadMedium> Allocator<F> {
-    ghost use Rattle.cfb_fat.specs.Tables.{bytes_of, difat_sectors_of, fat_of, fat_sectors_of, has_failed_here, is_honest, medium_of, orderly_of, sectors_of, version_of, AllFails, AllRests, HasCauseBelow};
+    ghost use Rattle.cfb_fat.specs.Tables.{bytes_of, difat_sectors_of, fat_of, fat_sectors_of, has_failed_here, is_honest, medium_of, orderly_of, sectors_of, version_of, AllFails, OnlyReadsAllocator, IsJustifiedBySectors};
     ghost use Rattle.cfb_chains.specs.LinkViews.{ids_of, links_version};
 
     /// Reads the FAT from its sectors, which the DIFAT names; entries for sectors past the file's end are left out.
@@ -58,20 +58,20 @@ impl<F: ReadMedium> Allocator<F> {
         difat_sectors: Vec<u32>,
         fat_sectors: Vec<u32>,
     ) -> Result<Allocator<F>, (F, Error)>
-        ensures sectors { IfOk result (λ it. Rests sectors (sectors_of it)) }
+        ensures sectors { IfOk result (λ it. OnlyReadsSectors sectors (sectors_of it)) }
         ensures tables { IfOk result (λ it. (difat_sectors_of it ≡ difat_sectors.items)
             × (fat_sectors_of it ≡ fat_sectors.items)) }
         ensures fat { IfOk result (λ it. AreHonest sectors
             → fat_of it ≡ take (sectors_count sectors)
             (fat_in (sectors_version sectors) (sectors_bytes sectors) fat_sectors.items)) }
-        ensures there { IfOk result (λ _. AreCounted sectors fat_sectors.items) }
+        ensures there { IfOk result (λ _. AreSectorNumbers sectors fat_sectors.items) }
         ensures missing { IfErr result (λ e. e.1 ≡ InvalidData
-            → AreCounted sectors fat_sectors.items → ⊥) }
-        ensures fault { IfErr result (λ e. IsFaultUnless ⊥ e.1 ⊎ (e.1 ≡ InvalidData)) }
-        ensures cause { IfErr result (λ e. HasCauseSince F.continues F.failures
+            → AreSectorNumbers sectors fat_sectors.items → ⊥) }
+        ensures errors { IfErr result (λ e. IsFaultOrInvalidInputIf ⊥ e.1 ⊎ (e.1 ≡ InvalidData)) }
+        ensures cause { IfErr result (λ e. IsJustifiedSince F.continues F.failures
             (λ m. sectors_failed sectors || F.failed m) (sectors_medium sectors) e.0 e.1) }
         ensures honest { IfErr result (λ e. F.honest e.0 ≡ F.honest (sectors_medium sectors)) }
-        ensures continues { IfErr result (λ e. Extends F.continues (sectors_medium sectors) e.0) }
+        ensures continues { IfErr result (λ e. Reaches F.continues (sectors_medium sectors) e.0) }
         ensures bytes { IfErr result (λ e. AreHonest sectors
             → F.bytes e.0 ≡ sectors_bytes sectors) }
     {
@@ -97,7 +97,7 @@ impl<F: ReadMedium> Allocator<F> {
     pub fn husk(alloc: Global, version: Version, medium: F) -> Allocator<F>
         ensures medium { medium_of result ≡ medium }
         ensures version { version_of result ≡ version }
-        ensures failed { has_failed_here result ≡ true }
+        ensures when_failed { has_failed_here result ≡ true }
     {
         Allocator {
             alloc,
@@ -178,8 +178,8 @@ impl<F: ReadMedium> Allocator<F> {
     pub fn table_sectors(&self) -> Result<Vec<u32>, Error>
         ensures all { IfOk result (λ all. all.items
             ≡ difat_sectors_of self.now ++ fat_sectors_of self.now) }
-        ensures failed { has_failed_here self.now ≡ true → IsErrOf result Failed }
-        ensures error { IfErr result (λ e. ((e ≡ Failed) × (has_failed_here self.now ≡ true))
+        ensures when_failed { has_failed_here self.now ≡ true → IsErrOf result Failed }
+        ensures errors { IfErr result (λ e. ((e ≡ Failed) × (has_failed_here self.now ≡ true))
             ⊎ (e ≡ Memory)) }
     {
         if self.sectors.is_failed() {
@@ -200,12 +200,12 @@ impl<F: ReadMedium> Allocator<F> {
     /// DIFAT has these sectors, and no others. The header's numbers of the tables' sectors aren't asked.
     pub fn is_orderly(&self) -> bool
         ensures value { result ≡ orderly_of self.now }
-        ensures orderly { IsTrue result → IsOrderly (version_of self.now)
+        ensures orderly { IsTrue result → AreTablesConsistent (version_of self.now)
             (sectors_count (sectors_of self.now)) (fat_of self.now) (fat_sectors_of self.now)
             (difat_sectors_of self.now) }
         ensures listed { has_failed_here self.now ≡ false → IsTrue (is_honest self.now)
             → IsTrue result
-            ↔ (IsOrderly (version_of self.now) (sectors_count (sectors_of self.now))
+            ↔ (AreTablesConsistent (version_of self.now) (sectors_count (sectors_of self.now))
             (fat_of self.now) (fat_sectors_of self.now) (difat_sectors_of self.now)
             × ∥ Lists (version_of self.now) (bytes_of self.now) (difat_sectors_of self.now)
             (fat_sectors_of self.now) ∥₁) }
@@ -217,7 +217,7 @@ impl<F: ReadMedium> Allocator<F> {
     pub fn next(&self, sector_id: u32) -> Result<u32, Error>
         ensures entry { IfOk result (λ n. (has_failed_here self.now ≡ false)
             × (slice_get (fat_of self.now) sector_id ≡ Some n)) }
-        ensures error { IfErr result (IsRefused (has_failed_here self.now)
+        ensures errors { IfErr result (IsFailedOrNotThere (has_failed_here self.now)
             (sector_id < length (fat_of self.now))) }
     {
         if self.sectors.is_failed() {
@@ -250,11 +250,11 @@ impl<F: ReadMedium> Allocator<F> {
     pub fn open_chain(&self, start: u32) -> Result<Links, Error>
         ensures chain { IfOk result (λ links. IsChain (fat_of self.now) start (ids_of links)) }
         ensures version { IfOk result (λ links. links_version links ≡ version_of self.now) }
-        ensures live { OnOk result (has_failed_here self.now ≡ false) }
-        ensures failed { has_failed_here self.now ≡ true → IsErrOf result Failed }
+        ensures not_failed { OnOk result (has_failed_here self.now ≡ false) }
+        ensures when_failed { has_failed_here self.now ≡ true → IsErrOf result Failed }
         ensures none { IsErrOf result InvalidData → (sectors : List ℕ)
             → IsChain (fat_of self.now) start sectors → ⊥ }
-        ensures error { IfErr result (λ e. ((e ≡ Failed) × (has_failed_here self.now ≡ true))
+        ensures errors { IfErr result (λ e. ((e ≡ Failed) × (has_failed_here self.now ≡ true))
             ⊎ (e ≡ InvalidData) ⊎ (e ≡ Memory)) }
     {
         if self.sectors.is_failed() {
@@ -266,7 +266,7 @@ impl<F: ReadMedium> Allocator<F> {
 }
 
 impl<F: Medium> Allocator<F> {
-    ghost use Rattle.cfb_fat.specs.Tables.{bytes_of, has_failed, has_failed_here, medium_of, sectors_of, AllRests, HasCauseBelow, KeepsTables};
+    ghost use Rattle.cfb_fat.specs.Tables.{bytes_of, has_failed, has_failed_here, medium_of, sectors_of, OnlyReadsAllocator, IsJustifiedBySectors, KeepsTables};
 
     /// Whether a fault in a write or a commit has left it, or the medium, in a state in which every call is refused.
     pub fn has_failed(&self) -> bool
@@ -277,10 +277,10 @@ impl<F: Medium> Allocator<F> {
 
     /// Passes on what the medium keeps back, and publishes nothing.
     pub fn flush(&mut self) -> Result<(), Error>
-        ensures rests { AllRests self.old self.new }
-        ensures failed { has_failed_here self.old ≡ true → IsErrOf result Failed }
-        ensures cause { IfErr result (HasCauseBelow self.old self.new) }
-        ensures fault { IfErr result (IsFaultUnless ⊥) }
+        ensures only_reads { OnlyReadsAllocator self.old self.new }
+        ensures when_failed { has_failed_here self.old ≡ true → IsErrOf result Failed }
+        ensures cause { IfErr result (IsJustifiedBySectors self.old self.new) }
+        ensures errors { IfErr result (IsFaultOrInvalidInputIf ⊥) }
     {
         self.sectors.flush()
     }
@@ -289,23 +289,23 @@ impl<F: Medium> Allocator<F> {
     pub fn commit(&mut self) -> Result<(), Error>
         ensures published { AreHonest (sectors_of self.old)
             → OnOk result (F.has_published (medium_of self.new) (bytes_of self.old)) }
-        ensures left { AreHonest (sectors_of self.old)
-            → LeavesOldOrBytes (sectors_of self.old) (sectors_of self.new) }
+        ensures crash { AreHonest (sectors_of self.old)
+            → CrashLeavesOldOrBytes (sectors_of self.old) (sectors_of self.new) }
         ensures bytes { has_failed_here self.new ≡ false → AreHonest (sectors_of self.old)
             → bytes_of self.new ≡ bytes_of self.old }
         ensures was_live { has_failed_here self.new ≡ false → has_failed_here self.old ≡ false }
         ensures honest { F.honest (medium_of self.new) ≡ F.honest (medium_of self.old) }
         ensures tables { KeepsTables self.old self.new }
-        ensures live { OnOk result (has_failed_here self.new ≡ false) }
-        ensures err { OnErr result (has_failed_here self.new ≡ true) }
-        ensures failed { has_failed_here self.old ≡ true
-            → IsErrOf result Failed × AllRests self.old self.new }
-        ensures cause { IfErr result (HasCauseBelow self.old self.new) }
+        ensures not_failed { OnOk result (has_failed_here self.new ≡ false) }
+        ensures after_error { OnErr result (has_failed_here self.new ≡ true) }
+        ensures when_failed { has_failed_here self.old ≡ true
+            → IsErrOf result Failed × OnlyReadsAllocator self.old self.new }
+        ensures cause { IfErr result (IsJustifiedBySectors self.old self.new) }
         ensures medium { (F.failures (medium_of self.old) ≤ F.failures (medium_of self.new))
             × OnOk result (F.failed (medium_of self.new) ≡ F.failed (medium_of self.old)) }
         ensures cut { IfErr result (IsCutOff F.failed F.continues (medium_of self.old)
             (medium_of self.new)) }
-        ensures fault { IfErr result (IsFaultUnless ⊥) }
+        ensures errors { IfErr result (IsFaultOrInvalidInputIf ⊥) }
     {
         self.sectors.commit()
     }
@@ -314,12 +314,12 @@ impl<F: Medium> Allocator<F> {
     /// allocator as it was: `InvalidInput` of a medium that doesn't survive a stop, `Failed` of one that has failed, `Memory`
     /// and `Device`.
     pub fn roll_back(self) -> Result<F, (Allocator<F>, Error)>
-        ensures rolled { IfOk result (RollsBack F.honest F.bytes F.continues F.has_published
+        ensures rolled { IfOk result (MediumRollsBack F.honest F.bytes F.continues F.has_published
             (medium_of self)) }
-        ensures rests { IfErr result (λ e. AllRests self e.0) }
-        ensures cause { IfErr result (λ e. HasCauseSince F.continues F.failures F.failed
+        ensures only_reads { IfErr result (λ e. OnlyReadsAllocator self e.0) }
+        ensures cause { IfErr result (λ e. IsJustifiedSince F.continues F.failures F.failed
             (medium_of self) (medium_of e.0) e.1) }
-        ensures fault { IfErr result (λ e. IsFaultUnless (F.survives ≡ false) e.1) }
+        ensures errors { IfErr result (λ e. IsFaultOrInvalidInputIf (F.survives ≡ false) e.1) }
     {
         let Allocator {
             alloc,

@@ -1,16 +1,16 @@
 //! Entries of the FAT that change, and chains that are freed ([MS-CFB] 2.3).
-ghost use Rattle.cfb_fat.specs.Calls.{Attempts, ChangesTables, HasRun};
+ghost use Rattle.cfb_fat.specs.Calls.{WriteErrorContract, TableErrorContract, HasRun};
 ghost use Rattle.cfb_chains.specs.ChainCalls.{IsInvalid};
-ghost use Rattle.cfb_chains.specs.Changes.{AreOnce, HaveEntry};
-ghost use Rattle.cfb_chains.specs.Owned.{Leaves};
-ghost use Rattle.cfb_fat.specs.Changing.{fat_here, ChangesFat, WritesEntries};
+ghost use Rattle.cfb_chains.specs.Changes.{AreDistinct, HaveEntry};
+ghost use Rattle.cfb_chains.specs.Owned.{ChangesAtMost};
+ghost use Rattle.cfb_fat.specs.Changing.{fat_here, ChangesFat, WritesFatEntries};
 ghost use Rattle.cfb_fat.specs.Growing.{HasMemory, KeepsMemory};
 ghost use Rattle.cfb_fat.specs.Keeping.{changes_keep, rests_keep_tables, writes_keep_tables};
 ghost use Rattle.cfb_fat.specs.Orderly.{AreBelow};
-ghost use Rattle.cfb_medium.specs.Calls.{IsFaultUnless};
+ghost use Rattle.cfb_medium.specs.Calls.{IsFaultOrInvalidInputIf};
 ghost use Rattle.cfb_medium.specs.Versions.{sector_len};
-ghost use Rattle.cfb_runs.specs.Freeing.{stretches};
-ghost use Rattle.cfb_runs.specs.Tables.{IsEasy};
+ghost use Rattle.cfb_fat_runs.specs.Freeing.{stretches};
+ghost use Rattle.cfb_fat_runs.specs.Tables.{IsEasy};
 ghost use Rattle.cfb_sectors.specs.Held.{count_of as sectors_count, has_failed_here as sectors_failed, version_of as sectors_version, IsHonest};
 ghost use Rattle.cfb_medium.specs.declared.error.Error.TheVariants.{InvalidData};
 ghost use Rattle.cfb_sectors.specs.Sectors.{end_of_chain, free, sector, Chain as IsChain};
@@ -19,8 +19,8 @@ ghost use Rattle.std.specs.Prelude.{false, length, slice_index, slice_set, true,
 use crate::Allocator;
 use crate::fat::{ENTRY_LEN, write_number};
 use cfb_chains::FreesChains;
+use cfb_fat_runs::count_stretches;
 use cfb_medium::{Error, Medium};
-use cfb_runs::count_stretches;
 use cfb_sectors::{END_OF_CHAIN, FREE_SECTOR, Sectors};
 
 // Where to look first for a sector in no use, after this one got an entry.
@@ -60,11 +60,11 @@ fn write_entries<F: Medium>(
     requires inside { AreBelow (sectors_count sectors.old) sector_ids.now }
     requires places { sectors_count sectors.old
         ≤ length fat_sectors.now * (sector_len (sectors_version sectors.old) / 4) }
-    ensures writes { WritesEntries sector_ids.now fat_sectors.now sectors.old sectors.new }
+    ensures writes { WritesFatEntries sector_ids.now fat_sectors.now sectors.old sectors.new }
     ensures entries { sectors_failed sectors.new ≡ false → IsHonest sectors.old
-        → AreOnce fat_sectors.now
+        → AreDistinct fat_sectors.now
         → HaveEntry entry (fat_here fat_sectors.now sectors.new) sector_ids.now }
-    ensures attempts { Attempts result sectors.old sectors.new }
+    ensures error_contract { WriteErrorContract result sectors.old sectors.new }
 {
     let each = sectors.sector_len() / ENTRY_LEN;
     for sector_id in sector_ids {
@@ -77,7 +77,7 @@ fn write_entries<F: Medium>(
 
 impl<F: Medium> Allocator<F> {
     ghost use Rattle.cfb_fat.specs.Seeing.{seen_of};
-    ghost use Rattle.cfb_fat.specs.Tables.{capacity_of, fat_of, has_failed_here, is_honest, orderly_of, runs_of, version_of, AllRests, HasCauseBelow};
+    ghost use Rattle.cfb_fat.specs.Tables.{capacity_of, fat_of, has_failed_here, is_honest, orderly_of, runs_of, version_of, OnlyReadsAllocator, IsJustifiedBySectors};
 
     // Writes an entry of the FAT, and sets it in memory. After a fault it has failed.
     pub(crate) fn set_entry(&mut self, sector_id: u32, entry: u32) -> Result<(), Error>
@@ -92,10 +92,10 @@ impl<F: Medium> Allocator<F> {
         ensures memory { (entries n : ℕ) → HasMemory self.old (entries + 1) n
             → HasMemory self.new entries n }
         ensures keeps { IsEasy (fat_of self.old) sector_id entry → KeepsMemory self.old self.new }
-        ensures live { OnOk result (has_failed_here self.new ≡ false) }
-        ensures err { OnErr result (has_failed_here self.new ≡ true) }
-        ensures cause { IfErr result (HasCauseBelow self.old self.new) }
-        ensures fault { IfErr result (IsFaultUnless ⊥) }
+        ensures not_failed { OnOk result (has_failed_here self.new ≡ false) }
+        ensures after_error { OnErr result (has_failed_here self.new ≡ true) }
+        ensures cause { IfErr result (IsJustifiedBySectors self.old self.new) }
+        ensures errors { IfErr result (IsFaultOrInvalidInputIf ⊥) }
     {
         let index = sector_id as usize;
         let each = self.sectors.sector_len() / ENTRY_LEN;
@@ -116,10 +116,10 @@ impl<F: Medium> Allocator<F> {
         ensures changes { ChangesFat sector_ids.now self.old self.new }
         ensures entries { has_failed_here self.new ≡ false
             → HaveEntry free (fat_of self.new) sector_ids.now }
-        ensures live { OnOk result (has_failed_here self.new ≡ false) }
-        ensures err { OnErr result (has_failed_here self.new ≡ true) }
-        ensures cause { IfErr result (HasCauseBelow self.old self.new) }
-        ensures fault { IfErr result (IsFaultUnless ⊥) }
+        ensures not_failed { OnOk result (has_failed_here self.new ≡ false) }
+        ensures after_error { OnErr result (has_failed_here self.new ≡ true) }
+        ensures cause { IfErr result (IsJustifiedBySectors self.old self.new) }
+        ensures errors { IfErr result (IsFaultOrInvalidInputIf ⊥) }
     {
         write_entries(
             &mut self.sectors,
@@ -139,12 +139,13 @@ impl<F: Medium> Allocator<F> {
             × HaveEntry free (fat_of self.new) ids) × ChangesFat ids self.old self.new }
         ensures leaves { OnOk result ((ids : List ℕ) × IsChain (fat_of self.old) start ids
             × (IsTrue (is_honest self.old)
-            → Leaves (sector (version_of self.old)) [] ids (seen_of self.old) (seen_of self.new))) }
-        ensures refused { IsErrOf result InvalidData
+            → ChangesAtMost (sector (version_of self.old)) [] ids (seen_of self.old)
+            (seen_of self.new))) }
+        ensures refused_only_if { IsErrOf result InvalidData
             → (IsTrue (orderly_of self.old) → (ids : List ℕ) → IsChain (fat_of self.old) start ids
             → ⊥)
-            × AllRests self.old self.new }
-        ensures changes { ChangesTables IsInvalid result self.old self.new }
+            × OnlyReadsAllocator self.old self.new }
+        ensures error_contract { TableErrorContract IsInvalid result self.old self.new }
     {
         let links = self.open_chain(start)?;
         if !self.is_orderly {
@@ -166,13 +167,13 @@ impl<F: Medium> Allocator<F> {
         ensures leaves { OnOk result ((ids : List ℕ)
             × IsChain (fat_of self.old) sector_id (sector_id ∷ ids)
             × (IsTrue (is_honest self.old)
-            → Leaves (sector (version_of self.old)) [] (sector_id ∷ ids) (seen_of self.old)
+            → ChangesAtMost (sector (version_of self.old)) [] (sector_id ∷ ids) (seen_of self.old)
             (seen_of self.new))) }
-        ensures refused { IsErrOf result InvalidData
+        ensures refused_only_if { IsErrOf result InvalidData
             → (IsTrue (orderly_of self.old) → (ids : List ℕ)
             → IsChain (fat_of self.old) sector_id (sector_id ∷ ids) → ⊥)
-            × AllRests self.old self.new }
-        ensures changes { ChangesTables IsInvalid result self.old self.new }
+            × OnlyReadsAllocator self.old self.new }
+        ensures error_contract { TableErrorContract IsInvalid result self.old self.new }
     {
         let next = self.next(sector_id)?;
         let rest = self.open_chain(next)?;

@@ -1,16 +1,16 @@
 //! The DIFAT: the sectors that hold it and the FAT, listed, read and added to ([MS-CFB] 2.5).
-ghost use Rattle.cfb_fat.specs.Calls.{Attempts};
-ghost use Rattle.cfb_chains.specs.Changes.{AreOnce};
+ghost use Rattle.cfb_fat.specs.Calls.{WriteErrorContract};
+ghost use Rattle.cfb_chains.specs.Changes.{AreDistinct};
 ghost use Rattle.cfb_fat.specs.Growing.{Appends, IsBesideDifat};
 ghost use Rattle.cfb_fat.specs.Listed.{IsStop, Lists};
 ghost use Rattle.cfb_fat.specs.Orderly.{named_at_most, AreBelow};
 ghost use Rattle.cfb_medium.specs.Bytes.{overwritten};
-ghost use Rattle.cfb_medium.specs.Calls.{IsFaultUnless};
+ghost use Rattle.cfb_medium.specs.Calls.{IsFaultOrInvalidInputIf};
 ghost use Rattle.cfb_medium.specs.Numbers.{numbers, u32_at};
 ghost use Rattle.cfb_medium.specs.Versions.{sector_len};
 ghost use Rattle.cfb_medium.specs.declared.error.Error.TheVariants.{InvalidData};
 ghost use Rattle.cfb_sectors.specs.Header.{difat_sector_count, fat_sector_count, first_difat_sector};
-ghost use Rattle.cfb_sectors.specs.Held.{bytes_of, count_of, has_failed_here, version_of, AreCounted, Changes, EndsIn, HasItsCause, IsHonest, Rests};
+ghost use Rattle.cfb_sectors.specs.Held.{bytes_of, count_of, has_failed_here, version_of, AreSectorNumbers, Changes, EndsIn, IsJustifiedByMedium, IsHonest, OnlyReadsSectors};
 ghost use Rattle.cfb_sectors.specs.Initial.{first_bytes, initial};
 ghost use Rattle.cfb_sectors.specs.Sectors.{difat, end_of_chain, free, greatest_regular, sector, sector_start, DifatChain};
 ghost use Rattle.cfb_sectors.specs.declared.initial.SectorInit.TheVariants.{Fat};
@@ -49,10 +49,10 @@ pub(crate) const HEADER_END: u64 = 512;
 pub(crate) fn read_word<F: ReadMedium>(sectors: &mut Sectors<F>, place: u64) -> Result<u32, Error>
     ensures read { IfOk result (λ n. IsHonest sectors.old
         → place + 4 ≤ length (bytes_of sectors.old) → n ≡ u32_at (bytes_of sectors.old) place) }
-    ensures live { OnOk result (has_failed_here sectors.old ≡ false) }
-    ensures rests { Rests sectors.old sectors.new }
-    ensures cause { IfErr result (HasItsCause sectors.old sectors.new) }
-    ensures fault { IfErr result (IsFaultUnless ⊥) }
+    ensures not_failed { OnOk result (has_failed_here sectors.old ≡ false) }
+    ensures only_reads { OnlyReadsSectors sectors.old sectors.new }
+    ensures cause { IfErr result (IsJustifiedByMedium sectors.old sectors.new) }
+    ensures errors { IfErr result (IsFaultOrInvalidInputIf ⊥) }
 {
     let mut word = [0; NUMBER_LEN];
     sectors.read_part(place, &mut word)?;
@@ -68,9 +68,9 @@ fn read_next<F: ReadMedium>(sectors: &mut Sectors<F>, sector_id: u32) -> Result<
         × (sector_id < count_of sectors.old)) }
     ensures missing { IsErrOf result InvalidData
         → (has_failed_here sectors.old ≡ false) × (count_of sectors.old ≤ sector_id) }
-    ensures rests { Rests sectors.old sectors.new }
-    ensures cause { IfErr result (HasItsCause sectors.old sectors.new) }
-    ensures fault { IfErr result (λ e. IsFaultUnless ⊥ e ⊎ (e ≡ InvalidData)) }
+    ensures only_reads { OnlyReadsSectors sectors.old sectors.new }
+    ensures cause { IfErr result (IsJustifiedByMedium sectors.old sectors.new) }
+    ensures errors { IfErr result (λ e. IsFaultOrInvalidInputIf ⊥ e ⊎ (e ≡ InvalidData)) }
 {
     let mut word = [0; NUMBER_LEN];
     let last = sectors.sector_len() - NUMBER_LEN;
@@ -90,10 +90,10 @@ fn walk<F: ReadMedium>(
     ensures none { IsErrOf result InvalidData → IsHonest sectors.old → (ids : List ℕ) (stop : ℕ)
         → IsStop stop → DifatChain (version_of sectors.old) (bytes_of sectors.old) start ids stop
         → ⊥ }
-    ensures there { IfOk result (λ it. AreCounted sectors.old it.0.items) }
-    ensures rests { Rests sectors.old sectors.new }
-    ensures cause { IfErr result (HasItsCause sectors.old sectors.new) }
-    ensures fault { IfErr result (λ e. IsFaultUnless ⊥ e ⊎ (e ≡ InvalidData)) }
+    ensures there { IfOk result (λ it. AreSectorNumbers sectors.old it.0.items) }
+    ensures only_reads { OnlyReadsSectors sectors.old sectors.new }
+    ensures cause { IfErr result (IsJustifiedByMedium sectors.old sectors.new) }
+    ensures errors { IfErr result (λ e. IsFaultOrInvalidInputIf ⊥ e ⊎ (e ≡ InvalidData)) }
 {
     let mut found = Vec::new(alloc);
     let mut at = start;
@@ -120,9 +120,9 @@ fn push_entries<F: ReadMedium>(
         (take (sector_len (version_of sectors.old) - 4)
         (sector (version_of sectors.old) (bytes_of sectors.old) sector_id))) }
     ensures missing { IsErrOf result InvalidData → sector_id < count_of sectors.old → ⊥ }
-    ensures rests { Rests sectors.old sectors.new }
-    ensures cause { IfErr result (HasItsCause sectors.old sectors.new) }
-    ensures fault { IfErr result (λ e. IsFaultUnless ⊥ e ⊎ (e ≡ InvalidData)) }
+    ensures only_reads { OnlyReadsSectors sectors.old sectors.new }
+    ensures cause { IfErr result (IsJustifiedByMedium sectors.old sectors.new) }
+    ensures errors { IfErr result (λ e. IsFaultOrInvalidInputIf ⊥ e ⊎ (e ≡ InvalidData)) }
 {
     let mut sector = [0; LONGEST];
     let len = sectors.sector_len() - NUMBER_LEN;
@@ -139,10 +139,11 @@ fn read_entries<F: ReadMedium>(
 ) -> Result<Vec<u32>, Error>
     ensures read { IfOk result (λ all. IsHonest sectors.old → 512 ≤ length (bytes_of sectors.old)
         → all.items ≡ difat (version_of sectors.old) (bytes_of sectors.old) difat_sectors.now) }
-    ensures missing { IsErrOf result InvalidData → AreCounted sectors.old difat_sectors.now → ⊥ }
-    ensures rests { Rests sectors.old sectors.new }
-    ensures cause { IfErr result (HasItsCause sectors.old sectors.new) }
-    ensures fault { IfErr result (λ e. IsFaultUnless ⊥ e ⊎ (e ≡ InvalidData)) }
+    ensures missing { IsErrOf result InvalidData → AreSectorNumbers sectors.old difat_sectors.now
+        → ⊥ }
+    ensures only_reads { OnlyReadsSectors sectors.old sectors.new }
+    ensures cause { IfErr result (IsJustifiedByMedium sectors.old sectors.new) }
+    ensures errors { IfErr result (λ e. IsFaultOrInvalidInputIf ⊥ e ⊎ (e ≡ InvalidData)) }
 {
     let mut header = [0; HEADER_ENTRIES_LEN];
     sectors.read_part(HEADER_ENTRIES, &mut header)?;
@@ -189,14 +190,14 @@ pub fn read_difat<F: ReadMedium>(alloc: Global, sectors: &mut Sectors<F>) -> Res
         (first_difat_sector (bytes_of sectors.old)) it.sectors.items it.stop) }
     ensures last { IfOk result (λ it. (front : List ℕ) → it.fat_sectors.items ≡ front ++ free ∷ []
         → ⊥) }
-    ensures live { OnOk result (has_failed_here sectors.old ≡ false) }
-    ensures refused { IsErrOf result InvalidData → has_failed_here sectors.old ≡ false }
+    ensures not_failed { OnOk result (has_failed_here sectors.old ≡ false) }
+    ensures refused_only_if { IsErrOf result InvalidData → has_failed_here sectors.old ≡ false }
     ensures none { IsErrOf result InvalidData → IsHonest sectors.old
         → 512 ≤ length (bytes_of sectors.old) → (difat_sectors fat_sectors : List ℕ)
         → Lists (version_of sectors.old) (bytes_of sectors.old) difat_sectors fat_sectors → ⊥ }
-    ensures rests { Rests sectors.old sectors.new }
-    ensures cause { IfErr result (HasItsCause sectors.old sectors.new) }
-    ensures fault { IfErr result (λ e. IsFaultUnless ⊥ e ⊎ (e ≡ InvalidData)) }
+    ensures only_reads { OnlyReadsSectors sectors.old sectors.new }
+    ensures cause { IfErr result (IsJustifiedByMedium sectors.old sectors.new) }
+    ensures errors { IfErr result (λ e. IsFaultOrInvalidInputIf ⊥ e ⊎ (e ≡ InvalidData)) }
 {
     let start = read_word(sectors, FIRST_DIFAT_SECTOR)?;
     let (difat_sectors, stop) = walk(alloc, sectors, start)?;
@@ -230,9 +231,9 @@ pub(crate) fn are_listed<F: ReadMedium>(
     ensures listed { IfOk result (λ is_listed. IsHonest sectors.old
         → IsTrue is_listed ↔ Lists (version_of sectors.old)
         (bytes_of sectors.old) difat_sectors.now fat_sectors.now) }
-    ensures rests { Rests sectors.old sectors.new }
-    ensures cause { IfErr result (HasItsCause sectors.old sectors.new) }
-    ensures fault { IfErr result (IsFaultUnless ⊥) }
+    ensures only_reads { OnlyReadsSectors sectors.old sectors.new }
+    ensures cause { IfErr result (IsJustifiedByMedium sectors.old sectors.new) }
+    ensures errors { IfErr result (IsFaultOrInvalidInputIf ⊥) }
 {
     match read_difat(alloc, sectors) {
         Ok(found) => Ok(
@@ -257,10 +258,10 @@ pub(crate) fn append_sector<F: Medium>(
     ensures whole { has_failed_here sectors.new ≡ false → IsHonest sectors.old
         → sector_start (version_of sectors.old) (count_of sectors.old)
         + sector_len (version_of sectors.old) ≤ length (bytes_of sectors.new) }
-    ensures live { OnOk result (has_failed_here sectors.new ≡ false) }
-    ensures err { OnErr result (has_failed_here sectors.new ≡ true) }
-    ensures cause { IfErr result (HasItsCause sectors.old sectors.new) }
-    ensures fault { IfErr result (IsFaultUnless ⊥) }
+    ensures not_failed { OnOk result (has_failed_here sectors.new ≡ false) }
+    ensures after_error { OnErr result (has_failed_here sectors.new ≡ true) }
+    ensures cause { IfErr result (IsJustifiedByMedium sectors.old sectors.new) }
+    ensures errors { IfErr result (IsFaultOrInvalidInputIf ⊥) }
 {
     sectors.append_sector(init)
 }
@@ -275,10 +276,10 @@ pub(crate) fn write_word<F: Medium>(
     ensures changes { Changes (λ b. overwritten b place
         (to_le_bytes w32 number)) sectors.old sectors.new }
     ensures count { count_of sectors.new ≡ count_of sectors.old }
-    ensures live { OnOk result (has_failed_here sectors.new ≡ false) }
-    ensures err { OnErr result (has_failed_here sectors.new ≡ true) }
-    ensures cause { IfErr result (HasItsCause sectors.old sectors.new) }
-    ensures fault { IfErr result (IsFaultUnless ⊥) }
+    ensures not_failed { OnOk result (has_failed_here sectors.new ≡ false) }
+    ensures after_error { OnErr result (has_failed_here sectors.new ≡ true) }
+    ensures cause { IfErr result (IsJustifiedByMedium sectors.old sectors.new) }
+    ensures errors { IfErr result (IsFaultOrInvalidInputIf ⊥) }
 {
     let bytes = number.to_le_bytes();
     sectors.write_part(place, &bytes)
@@ -294,10 +295,10 @@ fn write_counts<F: Medium>(
     ensures changes { Changes (λ b. overwritten (overwritten b 44 (to_le_bytes w32 fat_count)) 72
         (to_le_bytes w32 difat_count)) sectors.old sectors.new }
     ensures count { count_of sectors.new ≡ count_of sectors.old }
-    ensures live { OnOk result (has_failed_here sectors.new ≡ false) }
-    ensures err { OnErr result (has_failed_here sectors.new ≡ true) }
-    ensures cause { IfErr result (HasItsCause sectors.old sectors.new) }
-    ensures fault { IfErr result (IsFaultUnless ⊥) }
+    ensures not_failed { OnOk result (has_failed_here sectors.new ≡ false) }
+    ensures after_error { OnErr result (has_failed_here sectors.new ≡ true) }
+    ensures cause { IfErr result (IsJustifiedByMedium sectors.old sectors.new) }
+    ensures errors { IfErr result (IsFaultOrInvalidInputIf ⊥) }
 {
     write_word(sectors, FAT_COUNT, fat_count)?;
     write_word(sectors, DIFAT_COUNT, difat_count)?;
@@ -354,15 +355,15 @@ pub(crate) fn add_fat_sector<F: Medium>(
         → sector (version_of sectors.old) (bytes_of sectors.new) (count_of sectors.old)
         ≡ initial Fat (sector_len (version_of sectors.old)) }
     ensures listed { has_failed_here sectors.new ≡ false → IsHonest sectors.old
-        → AreOnce difat_sectors.now
+        → AreDistinct difat_sectors.now
         → (fat_sectors : List ℕ) → length fat_sectors ≡ fat_count
         → (h : Lists (version_of sectors.old) (bytes_of sectors.old) difat_sectors.now fat_sectors)
         → (m : Lists (version_of sectors.old) (bytes_of sectors.new) difat_sectors.now
         (fat_sectors ++ count_of sectors.old ∷ [])) × (m.stop ≡ h.stop) }
-    ensures told { has_failed_here sectors.new ≡ false → IsHonest sectors.old
+    ensures answer { has_failed_here sectors.new ≡ false → IsHonest sectors.old
         → (fat_sector_count (bytes_of sectors.new) ≡ fat_count + 1)
         × (difat_sector_count (bytes_of sectors.new) ≡ length difat_sectors.now) }
-    ensures attempts { Attempts result sectors.old sectors.new }
+    ensures error_contract { WriteErrorContract result sectors.old sectors.new }
 {
     let place = entry_place(sectors.version(), difat_sectors, fat_count);
     let sector_id = append_sector(sectors, NewSector::Init(SectorInit::Fat))?;
@@ -383,14 +384,14 @@ pub(crate) fn add_difat_sector<F: Medium>(
     ensures appends { Appends (IsBesideDifat sectors.old difat_sectors.now)
         sectors.old sectors.new }
     ensures listed { has_failed_here sectors.new ≡ false → IsHonest sectors.old
-        → AreOnce difat_sectors.now → (fat_sectors : List ℕ)
+        → AreDistinct difat_sectors.now → (fat_sectors : List ℕ)
         → Lists (version_of sectors.old) (bytes_of sectors.old) difat_sectors.now fat_sectors
         → (m : Lists (version_of sectors.old) (bytes_of sectors.new)
         (difat_sectors.now ++ count_of sectors.old ∷ []) fat_sectors) × (m.stop ≡ end_of_chain) }
-    ensures live { OnOk result (has_failed_here sectors.new ≡ false) }
-    ensures err { OnErr result (has_failed_here sectors.new ≡ true) }
-    ensures cause { IfErr result (HasItsCause sectors.old sectors.new) }
-    ensures fault { IfErr result (IsFaultUnless ⊥) }
+    ensures not_failed { OnOk result (has_failed_here sectors.new ≡ false) }
+    ensures after_error { OnErr result (has_failed_here sectors.new ≡ true) }
+    ensures cause { IfErr result (IsJustifiedByMedium sectors.old sectors.new) }
+    ensures errors { IfErr result (IsFaultOrInvalidInputIf ⊥) }
 {
     let place = link_place(sectors.version(), difat_sectors);
     let sector_id = append_sector(sectors, NewSector::Init(SectorInit::Difat))?;

@@ -1,20 +1,20 @@
 //! The FAT as its sectors hold it, and whether it can be changed ([MS-CFB] 2.3).
-ghost use Rattle.cfb_chains.specs.Changes.{AreOnce};
+ghost use Rattle.cfb_chains.specs.Changes.{AreDistinct};
 ghost use Rattle.cfb_fat.specs.Listed.{Lists};
-ghost use Rattle.cfb_fat.specs.Orderly.{AreBelow, IsOrderly};
+ghost use Rattle.cfb_fat.specs.Orderly.{AreBelow, AreTablesConsistent};
 ghost use Rattle.cfb_medium.specs.Bytes.{overwritten};
-ghost use Rattle.cfb_medium.specs.Calls.{IsFaultUnless};
+ghost use Rattle.cfb_medium.specs.Calls.{IsFaultOrInvalidInputIf};
 ghost use Rattle.cfb_medium.specs.Versions.{sector_len};
 ghost use Rattle.cfb_medium.specs.declared.error.Error.TheVariants.{InvalidData};
-ghost use Rattle.cfb_runs.specs.Tables.{entries_of};
-ghost use Rattle.cfb_sectors.specs.Held.{bytes_of, count_of, has_failed_here, version_of, AreCounted, Changes, HasItsCause, IsHonest, Rests};
+ghost use Rattle.cfb_fat_runs.specs.Tables.{entries_of};
+ghost use Rattle.cfb_sectors.specs.Held.{bytes_of, count_of, has_failed_here, version_of, AreSectorNumbers, Changes, IsJustifiedByMedium, IsHonest, OnlyReadsSectors};
 ghost use Rattle.cfb_sectors.specs.Sectors.{fat_in, joined, sector_start};
 ghost use Rattle.std.specs.Int.{to_le_bytes, w32};
 ghost use Rattle.std.specs.Prelude.{false, length, take, true, IfErr, IfOk, IsErrOf, IsTrue, OnErr, OnOk, ◌*◌, ◌++◌, ◌+◌, ◌/◌, ◌<◌, ◌↔◌, ◌≡◌, ◌≤◌, ◌⊎◌};
 
 use crate::difat::{are_listed, can_name, write_word};
+use cfb_fat_runs::Table;
 use cfb_medium::{Error, Medium, ReadMedium, Version};
-use cfb_runs::Table;
 use cfb_sectors::{Sectors, numbers_in};
 use std::alloc::{AllocError, Global};
 
@@ -34,11 +34,11 @@ pub fn read_joined<F: ReadMedium>(
         → all.items ≡ joined (version_of sectors.old) (bytes_of sectors.old) sector_ids.now) }
     ensures size { IfOk result (λ all. length all.items
         ≡ length sector_ids.now * sector_len (version_of sectors.old)) }
-    ensures there { IfOk result (λ _. AreCounted sectors.old sector_ids.now) }
-    ensures missing { IsErrOf result InvalidData → AreCounted sectors.old sector_ids.now → ⊥ }
-    ensures rests { Rests sectors.old sectors.new }
-    ensures cause { IfErr result (HasItsCause sectors.old sectors.new) }
-    ensures fault { IfErr result (λ e. IsFaultUnless ⊥ e ⊎ (e ≡ InvalidData)) }
+    ensures there { IfOk result (λ _. AreSectorNumbers sectors.old sector_ids.now) }
+    ensures missing { IsErrOf result InvalidData → AreSectorNumbers sectors.old sector_ids.now → ⊥ }
+    ensures only_reads { OnlyReadsSectors sectors.old sectors.new }
+    ensures cause { IfErr result (IsJustifiedByMedium sectors.old sectors.new) }
+    ensures errors { IfErr result (λ e. IsFaultOrInvalidInputIf ⊥ e ⊎ (e ≡ InvalidData)) }
 {
     let mut all = Vec::new(alloc);
     let mut sector = [0; LONGEST];
@@ -60,11 +60,11 @@ pub fn read_table<F: ReadMedium>(
         → table.items ≡ fat_in (version_of sectors.old) (bytes_of sectors.old) sector_ids.now) }
     ensures size { IfOk result (λ table. length table.items
         ≡ length sector_ids.now * (sector_len (version_of sectors.old) / 4)) }
-    ensures there { IfOk result (λ _. AreCounted sectors.old sector_ids.now) }
-    ensures missing { IsErrOf result InvalidData → AreCounted sectors.old sector_ids.now → ⊥ }
-    ensures rests { Rests sectors.old sectors.new }
-    ensures cause { IfErr result (HasItsCause sectors.old sectors.new) }
-    ensures fault { IfErr result (λ e. IsFaultUnless ⊥ e ⊎ (e ≡ InvalidData)) }
+    ensures there { IfOk result (λ _. AreSectorNumbers sectors.old sector_ids.now) }
+    ensures missing { IsErrOf result InvalidData → AreSectorNumbers sectors.old sector_ids.now → ⊥ }
+    ensures only_reads { OnlyReadsSectors sectors.old sectors.new }
+    ensures cause { IfErr result (IsJustifiedByMedium sectors.old sectors.new) }
+    ensures errors { IfErr result (λ e. IsFaultOrInvalidInputIf ⊥ e ⊎ (e ≡ InvalidData)) }
 {
     let bytes = read_joined(alloc, sectors, sector_ids)?;
     Ok(numbers_in(alloc, &bytes)?)
@@ -83,10 +83,10 @@ pub(crate) fn write_number<F: Medium>(
         (sector_start (version_of sectors.old) sector_id + 4 * index)
         (to_le_bytes w32 number)) sectors.old sectors.new }
     ensures count { count_of sectors.new ≡ count_of sectors.old }
-    ensures live { OnOk result (has_failed_here sectors.new ≡ false) }
-    ensures err { OnErr result (has_failed_here sectors.new ≡ true) }
-    ensures cause { IfErr result (HasItsCause sectors.old sectors.new) }
-    ensures fault { IfErr result (IsFaultUnless ⊥) }
+    ensures not_failed { OnOk result (has_failed_here sectors.new ≡ false) }
+    ensures after_error { OnErr result (has_failed_here sectors.new ≡ true) }
+    ensures cause { IfErr result (IsJustifiedByMedium sectors.old sectors.new) }
+    ensures errors { IfErr result (IsFaultOrInvalidInputIf ⊥) }
 {
     let place = sectors.start(sector_id) + (ENTRY_LEN * index) as u64;
     write_word(sectors, place, number)
@@ -105,7 +105,7 @@ pub(crate) fn both(alloc: Global, first: &[u32], second: &[u32]) -> Result<Vec<u
 // Whether no number stands twice among these below a limit. It sets a mark for each that it meets.
 fn are_once(alloc: Global, limit: u32, ids: &[u32]) -> Result<bool, AllocError>
     requires { AreBelow limit ids.now }
-    ensures { IfOk result (λ once. IsTrue once ↔ AreOnce ids.now) }
+    ensures { IfOk result (λ once. IsTrue once ↔ AreDistinct ids.now) }
 {
     let mut marks = vec![in alloc; false; limit as usize]?;
     for id in ids {
@@ -148,7 +148,8 @@ fn are_orderly(
 ) -> Result<bool, AllocError>
     requires { AreBelow count fat_sectors.now }
     ensures { IfOk result (λ orderly. IsTrue orderly
-        ↔ IsOrderly version count (entries_of fat.now) fat_sectors.now difat_sectors.now) }
+        ↔ AreTablesConsistent version count
+        (entries_of fat.now) fat_sectors.now difat_sectors.now) }
 {
     if count == 0 || fat.len() != count as usize {
         return Ok(false);
@@ -175,12 +176,13 @@ fn read_fat<F: ReadMedium>(
     ensures inside { IfOk result (λ it. length (entries_of it) ≤ count_of sectors.old) }
     ensures whole { IfOk result (λ it. length (entries_of it)
         ≤ length fat_sectors.now * (sector_len (version_of sectors.old) / 4)) }
-    ensures there { IfOk result (λ _. AreCounted sectors.old fat_sectors.now) }
+    ensures there { IfOk result (λ _. AreSectorNumbers sectors.old fat_sectors.now) }
     ensures below { IfOk result (λ _. AreBelow (count_of sectors.old) fat_sectors.now) }
-    ensures missing { IsErrOf result InvalidData → AreCounted sectors.old fat_sectors.now → ⊥ }
-    ensures rests { Rests sectors.old sectors.new }
-    ensures cause { IfErr result (HasItsCause sectors.old sectors.new) }
-    ensures fault { IfErr result (λ e. IsFaultUnless ⊥ e ⊎ (e ≡ InvalidData)) }
+    ensures missing { IsErrOf result InvalidData → AreSectorNumbers sectors.old fat_sectors.now
+        → ⊥ }
+    ensures only_reads { OnlyReadsSectors sectors.old sectors.new }
+    ensures cause { IfErr result (IsJustifiedByMedium sectors.old sectors.new) }
+    ensures errors { IfErr result (λ e. IsFaultOrInvalidInputIf ⊥ e ⊎ (e ≡ InvalidData)) }
 {
     let mut fat = read_table(alloc, sectors, fat_sectors)?;
     fat.truncate(sectors.num_sectors() as usize);
@@ -201,19 +203,22 @@ pub(crate) fn read_parts<F: ReadMedium>(
     ensures whole { IfOk result (λ it. length (entries_of it.0)
         ≤ length fat_sectors.now * (sector_len (version_of sectors.old) / 4)) }
     ensures orderly { IfOk result (λ it. IsTrue it.1
-        → IsOrderly (version_of sectors.old) (count_of sectors.old) (entries_of it.0) fat_sectors.now
+        → AreTablesConsistent (version_of sectors.old) (count_of sectors.old)
+        (entries_of it.0) fat_sectors.now
         difat_sectors.now) }
     ensures listed { IfOk result (λ it. has_failed_here sectors.old ≡ false → IsHonest sectors.old
         → IsTrue it.1
-        ↔ (IsOrderly (version_of sectors.old) (count_of sectors.old) (entries_of it.0) fat_sectors.now
+        ↔ (AreTablesConsistent (version_of sectors.old) (count_of sectors.old)
+        (entries_of it.0) fat_sectors.now
         difat_sectors.now × Lists (version_of sectors.old)
         (bytes_of sectors.old) difat_sectors.now fat_sectors.now)) }
-    ensures there { IfOk result (λ _. AreCounted sectors.old fat_sectors.now) }
+    ensures there { IfOk result (λ _. AreSectorNumbers sectors.old fat_sectors.now) }
     ensures below { IfOk result (λ _. AreBelow (count_of sectors.old) fat_sectors.now) }
-    ensures missing { IsErrOf result InvalidData → AreCounted sectors.old fat_sectors.now → ⊥ }
-    ensures rests { Rests sectors.old sectors.new }
-    ensures cause { IfErr result (HasItsCause sectors.old sectors.new) }
-    ensures fault { IfErr result (λ e. IsFaultUnless ⊥ e ⊎ (e ≡ InvalidData)) }
+    ensures missing { IsErrOf result InvalidData → AreSectorNumbers sectors.old fat_sectors.now
+        → ⊥ }
+    ensures only_reads { OnlyReadsSectors sectors.old sectors.new }
+    ensures cause { IfErr result (IsJustifiedByMedium sectors.old sectors.new) }
+    ensures errors { IfErr result (λ e. IsFaultOrInvalidInputIf ⊥ e ⊎ (e ≡ InvalidData)) }
 {
     let count = sectors.num_sectors();
     let fat = read_fat(alloc, sectors, fat_sectors)?;

@@ -1,5 +1,5 @@
 //! Tables that become longer, and the file with them.
-ghost use Rattle.cfb_fat.specs.Calls.{places_of, Attempts, EndsBehind, HasNoneBelow, HasPlace, IsTheLast, Occupies, Tries};
+ghost use Rattle.cfb_fat.specs.Calls.{places_of, WriteErrorContract, EndsBehind, HasNoFreeBelow, HasPlace, IsTheLast, AllocatesAndFills, MemoryErrorContract};
 ghost use Rattle.cfb_fat.specs.Growing.{GrowsFat, HasMemory, KeepsMemory, MarksBehind, Spends, SpendsOne};
 ghost use Rattle.cfb_fat.specs.Orderly.{named_at_most};
 ghost use Rattle.cfb_medium.specs.Versions.{sector_len};
@@ -31,7 +31,7 @@ fn runs_for(count: usize, each: usize, num_fat_sectors: usize, len: usize) -> us
 }
 
 impl<F: Medium> Allocator<F> {
-    ghost use Rattle.cfb_fat.specs.Tables.{capacity_of, difat_sectors_of, fat_of, fat_sectors_of, has_failed_here, orderly_of, runs_of, sectors_of, version_of, AllRests};
+    ghost use Rattle.cfb_fat.specs.Tables.{capacity_of, difat_sectors_of, fat_of, fat_sectors_of, has_failed_here, orderly_of, runs_of, sectors_of, version_of, OnlyReadsAllocator};
 
     // Asks for the memory of so many runs of the FAT more. Nothing is changed.
     pub(crate) fn reserve_runs(&mut self, count: usize) -> Result<(), AllocError>
@@ -39,7 +39,7 @@ impl<F: Medium> Allocator<F> {
         ensures most { OnOk result (count < 2 ^ 63) }
         ensures keeps { KeepsMemory self.old self.new }
         ensures enough { runs_of self.old + count ≤ capacity_of self.old → OnErr result ⊥ }
-        ensures rests { AllRests self.old self.new }
+        ensures only_reads { OnlyReadsAllocator self.old self.new }
     {
         self.fat.reserve(count)
     }
@@ -49,7 +49,7 @@ impl<F: Medium> Allocator<F> {
         ensures memory { OnOk result (HasMemory self.new 0 count) }
         ensures keeps { KeepsMemory self.old self.new }
         ensures enough { HasMemory self.old 0 count → OnErr result ⊥ }
-        ensures rests { AllRests self.old self.new }
+        ensures only_reads { OnlyReadsAllocator self.old self.new }
     {
         let each = self.sectors.sector_len() / ENTRY_LEN;
         let runs = runs_for(count, each, self.fat_sectors.len(), self.fat.len());
@@ -75,7 +75,8 @@ impl<F: Medium> Allocator<F> {
             × (fat_sectors_of self.new ≡ fat_sectors_of self.old
             ++ length (fat_of self.old) ∷ [])) }
         ensures spends { SpendsOne 3 result self.old self.new }
-        ensures attempts { Attempts result (sectors_of self.old) (sectors_of self.new) }
+        ensures error_contract { WriteErrorContract result (sectors_of self.old)
+            (sectors_of self.new) }
     {
         self.is_orderly = false;
         let sector_id = add_fat_sector(
@@ -106,7 +107,8 @@ impl<F: Medium> Allocator<F> {
             × (fat_sectors_of self.new ≡ fat_sectors_of self.old
             ++ (length (fat_of self.old) + 1) ∷ [])) }
         ensures spends { SpendsOne 3 result self.old self.new }
-        ensures attempts { Attempts result (sectors_of self.old) (sectors_of self.new) }
+        ensures error_contract { WriteErrorContract result (sectors_of self.old)
+            (sectors_of self.new) }
     {
         self.is_orderly = false;
         let difat_sector = add_difat_sector(&mut self.sectors, &self.difat_sectors)?;
@@ -135,7 +137,8 @@ impl<F: Medium> Allocator<F> {
         ensures added { OnOk result (MarksBehind [] [] self.old self.new) }
         ensures spends { SpendsOne 1 result self.old self.new }
         ensures place { OnOk result (HasPlace self.new) }
-        ensures attempts { Attempts result (sectors_of self.old) (sectors_of self.new) }
+        ensures error_contract { WriteErrorContract result (sectors_of self.old)
+            (sectors_of self.new) }
     {
         let count = self.num_sectors();
         if can_name(
@@ -163,9 +166,9 @@ impl<F: Medium> Allocator<F> {
         ensures place { OnOk result (HasPlace self.new) }
         ensures added { OnOk result (MarksBehind [] [] self.old self.new) }
         ensures spends { Spends 1 IsTheLast result self.old self.new }
-        ensures full { IsErrOf result Full → (greatest_regular < length (fat_of self.old))
-            × AllRests self.old self.new }
-        ensures tries { Tries IsTheLast result self.old self.new }
+        ensures full_only_if { IsErrOf result Full → (greatest_regular < length (fat_of self.old))
+            × OnlyReadsAllocator self.old self.new }
+        ensures tries { MemoryErrorContract IsTheLast result self.old self.new }
     {
         if self.num_sectors() > MAX_REGULAR_SECTOR {
             return Err(Error::Full);
@@ -185,13 +188,14 @@ impl<F: Medium> Allocator<F> {
         requires live { has_failed_here self.old ≡ false }
         requires orderly { IsTrue (orderly_of self.old) }
         requires place { HasPlace self.old }
-        requires crowded { HasNoneBelow self.old (length (fat_of self.old)) }
+        requires crowded { HasNoFreeBelow self.old (length (fat_of self.old)) }
         ensures ends { IfOk result (EndsBehind self.old self.new) }
-        ensures occupies { IfOk result (Occupies init.entry self.old self.new) }
+        ensures occupies { IfOk result (AllocatesAndFills init.entry self.old self.new) }
         ensures none { OnErr result (GrowsFat [] [] self.old self.new) }
         ensures spends { (n : ℕ) → HasMemory self.old 1 n
             → OnOk result (HasMemory self.new 0 n) }
-        ensures attempts { Attempts result (sectors_of self.old) (sectors_of self.new) }
+        ensures error_contract { WriteErrorContract result (sectors_of self.old)
+            (sectors_of self.new) }
     {
         let index = self.fat.len();
         let each = self.sectors.sector_len() / ENTRY_LEN;

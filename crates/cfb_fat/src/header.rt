@@ -1,9 +1,9 @@
 //! The header's numbers that layers above may change ([MS-CFB] 2.2).
-ghost use Rattle.cfb_chains.specs.Owned.{Leaves};
+ghost use Rattle.cfb_chains.specs.Owned.{ChangesAtMost};
 ghost use Rattle.cfb_fat.specs.Changing.{WritesBeside};
 ghost use Rattle.cfb_fat.specs.HeaderWords.{word_place};
 ghost use Rattle.cfb_fat.specs.Seeing.{seen_of};
-ghost use Rattle.cfb_medium.specs.Calls.{IsFaultUnless};
+ghost use Rattle.cfb_medium.specs.Calls.{IsFaultOrInvalidInputIf};
 ghost use Rattle.cfb_medium.specs.declared.error.Error.TheVariants.{Failed};
 ghost use Rattle.cfb_sectors.specs.Sectors.{sector};
 ghost use Rattle.std.specs.Int.{to_le_bytes, w32};
@@ -40,25 +40,26 @@ impl HeaderWord {
 }
 
 impl<F: Medium> Allocator<F> {
-    ghost use Rattle.cfb_fat.specs.Tables.{has_failed_here, is_honest, version_of, AllRests, HasCauseBelow};
+    ghost use Rattle.cfb_fat.specs.Tables.{has_failed_here, is_honest, version_of, OnlyReadsAllocator, IsJustifiedBySectors};
 
     /// Writes a number of the header; all else of the file stays. After a fault it has failed.
     pub fn write_header_word(&mut self, word: HeaderWord, number: u32) -> Result<(), Error>
         ensures writes { OnOk result (WritesBeside (word_place word)
             (to_le_bytes w32 number) self.old self.new) }
         ensures either { WritesBeside (word_place word) (to_le_bytes w32 number) self.old self.new
-            ⊎ AllRests self.old self.new }
+            ⊎ OnlyReadsAllocator self.old self.new }
         ensures leaves { OnOk result (IsTrue (is_honest self.old)
-            → Leaves (sector (version_of self.old)) (word_place word ∷ []) [] (seen_of self.old)
+            → ChangesAtMost (sector (version_of self.old)) (word_place word ∷ []) []
+            (seen_of self.old)
             (seen_of self.new)) }
-        ensures live { OnOk result ((has_failed_here self.old ≡ false)
+        ensures not_failed { OnOk result ((has_failed_here self.old ≡ false)
             × (has_failed_here self.new ≡ false)) }
         ensures after { OnErr result ((has_failed_here self.new ≡ true)
-            ⊎ AllRests self.old self.new) }
-        ensures failed { has_failed_here self.old ≡ true
-            → IsErrOf result Failed × AllRests self.old self.new }
-        ensures cause { IfErr result (HasCauseBelow self.old self.new) }
-        ensures fault { IfErr result (IsFaultUnless ⊥) }
+            ⊎ OnlyReadsAllocator self.old self.new) }
+        ensures when_failed { has_failed_here self.old ≡ true
+            → IsErrOf result Failed × OnlyReadsAllocator self.old self.new }
+        ensures cause { IfErr result (IsJustifiedBySectors self.old self.new) }
+        ensures errors { IfErr result (IsFaultOrInvalidInputIf ⊥) }
     {
         if self.sectors.is_failed() {
             return Err(Error::Failed);

@@ -1,5 +1,5 @@
 //! Laws: of what the DIFAT lists, and of calls on an allocator one after the other.
-ghost use Rattle.cfb_chains.specs.Owned.{Owned, Stays};
+ghost use Rattle.cfb_chains.specs.Owned.{OwnDisjointChains, KeepsOwnedSectors};
 ghost use Rattle.cfb_fat.specs.Listed.{stop_behind, Lists};
 ghost use Rattle.cfb_fat.specs.Seeing.{seen_of};
 ghost use Rattle.cfb_fat.specs.Tables.{fat_of, has_failed_here, is_honest, tables_of, version_of};
@@ -30,10 +30,10 @@ pub fn lists_are_facts()
 pub fn use_a_chain<F: Medium>(allocator: &mut Allocator<F>, bytes: &[u8]) -> Result<(), Error>
     ensures stays { OnOk result (IsTrue (is_honest allocator.old)
         → length bytes.now ≤ sector_len (version_of allocator.old) → (own : ℕ → List ℕ)
-        → Owned (fat_of allocator.old) (tables_of allocator.old) own
-        → (k : ℕ) → Stays (sector (version_of allocator.old)) (seen_of allocator.old)
+        → OwnDisjointChains (fat_of allocator.old) (tables_of allocator.old) own
+        → (k : ℕ) → KeepsOwnedSectors (sector (version_of allocator.old)) (seen_of allocator.old)
         (seen_of allocator.new) (own k)) }
-    ensures failed { has_failed_here allocator.old ≡ true → IsErrOf result Failed }
+    ensures when_failed { has_failed_here allocator.old ≡ true → IsErrOf result Failed }
 {
     let start = allocator.begin_chain(NewSector::Init(SectorInit::Zero))?;
     allocator.write_contiguous(start, 0, bytes)?;

@@ -1,5 +1,5 @@
 //! The tables' sectors as they were read, in rising order, so that a write finds by halving whether it meets one.
-ghost use Rattle.cfb_chains.specs.Changes.{IsNoneOf};
+ghost use Rattle.cfb_chains.specs.Changes.{IsNotIn};
 ghost use Rattle.cfb_fat.specs.Rising.{AreRead, RiseFrom};
 ghost use Rattle.std.specs.Prelude.{IfOk, ℕ};
 
@@ -25,8 +25,8 @@ impl ReadTables {
     ) -> Result<ReadTables, AllocError>
         ensures difat { IfOk result (λ it. AreRead it.ids.items it.num_difat difat_sectors.now) }
         ensures fat { IfOk result (λ it. AreRead it.ids.items it.num_fat fat_sectors.now) }
-        ensures alone { IfOk result (λ it. (n : ℕ) → IsNoneOf difat_sectors.now n
-            → IsNoneOf fat_sectors.now n → IsNoneOf it.ids.items n) }
+        ensures alone { IfOk result (λ it. (n : ℕ) → IsNotIn difat_sectors.now n
+            → IsNotIn fat_sectors.now n → IsNotIn it.ids.items n) }
     {
         let mut ids = both(alloc, difat_sectors, fat_sectors)?;
         ids.sort_unstable();

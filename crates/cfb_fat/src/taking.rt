@@ -1,16 +1,16 @@
 //! Sectors that are taken into use, for chains that begin or become longer ([MS-CFB] 2.3).
-ghost use Rattle.cfb_fat.specs.Calls.{FatAnswers, Attempts, ChangesTables, FillsBehind, HasNoneBelow, IsFresh, IsFull, IsLastResort, IsTheLast, Occupies, TakesOne, Tries};
+ghost use Rattle.cfb_fat.specs.Calls.{FatErrorContract, WriteErrorContract, TableErrorContract, FillsBehind, HasNoFreeBelow, IsNewSector, IsFull, IsLastResort, IsTheLast, AllocatesAndFills, AllocatesOneSector, MemoryErrorContract};
 ghost use Rattle.cfb_chains.specs.ChainCalls.{IsInvalidOrFull};
-ghost use Rattle.cfb_chains.specs.Changes.{AreAmong, IsNoneOf};
-ghost use Rattle.cfb_chains.specs.Grown.{AreWritable, IsLinked};
+ghost use Rattle.cfb_chains.specs.Changes.{AreSubsetOf, IsNotIn};
+ghost use Rattle.cfb_chains.specs.Grown.{AreSectorsWritable, IsChainInTable};
 ghost use Rattle.cfb_chains.specs.LinkViews.{ids_of, links_version};
-ghost use Rattle.cfb_chains.specs.Owned.{Leaves};
+ghost use Rattle.cfb_chains.specs.Owned.{ChangesAtMost};
 ghost use Rattle.cfb_chains.specs.Positions.{sectors_for};
 ghost use Rattle.cfb_fat.specs.Changing.{MayWrite, WritesBeside};
-ghost use Rattle.cfb_fat.specs.Growing.{GrowsFat, HasMemory, KeepsMemory, LacksNumbers, Spends, TakesIn};
+ghost use Rattle.cfb_fat.specs.Growing.{GrowsFat, HasMemory, KeepsMemory, LacksSectorNumbers, Spends, AllocatesSectors};
 ghost use Rattle.cfb_fat.specs.Keeping.{takes_cause, takes_fails, takes_keep, takes_rest, takes_then};
 ghost use Rattle.cfb_fat.specs.Seeing.{seen_of};
-ghost use Rattle.cfb_medium.specs.Calls.{IsFaultUnless};
+ghost use Rattle.cfb_medium.specs.Calls.{IsFaultOrInvalidInputIf};
 ghost use Rattle.cfb_medium.specs.Versions.{sector_len};
 ghost use Rattle.cfb_medium.specs.declared.error.Error.TheVariants.{Failed, Full, InvalidData, Memory};
 ghost use Rattle.cfb_sectors.specs.Copies.{copies};
@@ -25,7 +25,7 @@ use cfb_medium::{Error, Medium};
 use cfb_sectors::{END_OF_CHAIN, FREE_SECTOR, MAX_REGULAR_SECTOR, NewSector, SectorInit};
 
 impl<F: Medium> Allocator<F> {
-    ghost use Rattle.cfb_fat.specs.Tables.{bytes_of, capacity_of, difat_sectors_of, fat_of, fat_sectors_of, has_failed_here, is_honest, orderly_of, runs_of, sectors_of, tables_of, version_of, AllRests, HasCauseBelow};
+    ghost use Rattle.cfb_fat.specs.Tables.{bytes_of, capacity_of, difat_sectors_of, fat_of, fat_sectors_of, has_failed_here, is_honest, orderly_of, runs_of, sectors_of, tables_of, version_of, OnlyReadsAllocator, IsJustifiedBySectors};
 
     /// Readies the chain from a start to take in so many sectors: the memory that the tables may need for them is asked for.
     /// `InvalidData` where the FAT has no such chain or the tables can't be changed, and then `Full` where fewer numbers are
@@ -34,13 +34,13 @@ impl<F: Medium> Allocator<F> {
         ensures ready { OnOk result (IsTrue (orderly_of self.old)) }
         ensures chain { OnOk result ((ids : List ℕ) × IsChain (fat_of self.old) start ids) }
         ensures memory { OnOk result (HasMemory self.new 0 count) }
-        ensures rests { AllRests self.old self.new }
-        ensures refused { IsErrOf result InvalidData → IsTrue (orderly_of self.old)
+        ensures only_reads { OnlyReadsAllocator self.old self.new }
+        ensures refused_only_if { IsErrOf result InvalidData → IsTrue (orderly_of self.old)
             → (ids : List ℕ) → IsChain (fat_of self.old) start ids → ⊥ }
-        ensures full { IsErrOf result Full → IsTrue (orderly_of self.old)
-            × LacksNumbers self.old count }
-        ensures failed { has_failed_here self.old ≡ true → IsErrOf result Failed }
-        ensures error { IfErr result (λ e. ((e ≡ Failed) × (has_failed_here self.old ≡ true))
+        ensures full_only_if { IsErrOf result Full → IsTrue (orderly_of self.old)
+            × LacksSectorNumbers self.old count }
+        ensures when_failed { has_failed_here self.old ≡ true → IsErrOf result Failed }
+        ensures errors { IfErr result (λ e. ((e ≡ Failed) × (has_failed_here self.old ≡ true))
             ⊎ (e ≡ InvalidData) ⊎ (e ≡ Memory) ⊎ (e ≡ Full)) }
     {
         self.check_growth(start, count)?;
@@ -53,12 +53,12 @@ impl<F: Medium> Allocator<F> {
     fn check_growth(&self, start: u32, count: usize) -> Result<(), Error>
         ensures ready { OnOk result (IsTrue (orderly_of self.now)) }
         ensures chain { OnOk result ((ids : List ℕ) × IsChain (fat_of self.now) start ids) }
-        ensures refused { IsErrOf result InvalidData → IsTrue (orderly_of self.now)
+        ensures refused_only_if { IsErrOf result InvalidData → IsTrue (orderly_of self.now)
             → (ids : List ℕ) → IsChain (fat_of self.now) start ids → ⊥ }
-        ensures full { IsErrOf result Full → IsTrue (orderly_of self.now)
-            × LacksNumbers self.now count }
-        ensures failed { has_failed_here self.now ≡ true → IsErrOf result Failed }
-        ensures error { IfErr result (λ e. ((e ≡ Failed) × (has_failed_here self.now ≡ true))
+        ensures full_only_if { IsErrOf result Full → IsTrue (orderly_of self.now)
+            × LacksSectorNumbers self.now count }
+        ensures when_failed { has_failed_here self.now ≡ true → IsErrOf result Failed }
+        ensures errors { IfErr result (λ e. ((e ≡ Failed) × (has_failed_here self.now ≡ true))
             ⊎ (e ≡ InvalidData) ⊎ (e ≡ Memory) ⊎ (e ≡ Full)) }
     {
         let _links = self.open_chain(start)?;
@@ -77,8 +77,8 @@ impl<F: Medium> Allocator<F> {
         requires live { has_failed_here self.now ≡ false }
         requires there { sector_id < length (fat_of self.now) }
         ensures { IsTrue result ↔ ((slice_index (fat_of self.now) sector_id ≡ free)
-            × IsNoneOf (difat_sectors_of self.now) sector_id
-            × IsNoneOf (fat_sectors_of self.now) sector_id) }
+            × IsNotIn (difat_sectors_of self.now) sector_id
+            × IsNotIn (fat_sectors_of self.now) sector_id) }
     {
         if self.fat.entry(sector_id as usize) != FREE_SECTOR {
             return false;
@@ -90,10 +90,10 @@ impl<F: Medium> Allocator<F> {
     // in use aren't looked at again.
     fn find_free(&self) -> Option<u32>
         requires { has_failed_here self.now ≡ false }
-        ensures { MatchOption result (HasNoneBelow self.now (length (fat_of self.now)))
+        ensures { MatchOption result (HasNoFreeBelow self.now (length (fat_of self.now)))
             (λ n. (slice_get (fat_of self.now) n ≡ Some free)
-            × IsNoneOf (difat_sectors_of self.now) n
-            × IsNoneOf (fat_sectors_of self.now) n × HasNoneBelow self.now n) }
+            × IsNotIn (difat_sectors_of self.now) n
+            × IsNotIn (fat_sectors_of self.now) n × HasNoFreeBelow self.now n) }
     {
         let mut from = self.first_free;
         while let Some(index) = self.fat.next_free(from) {
@@ -110,19 +110,19 @@ impl<F: Medium> Allocator<F> {
     fn init_beside(&mut self, sector_id: u32, init: NewSector<'_>) -> Result<(), Error>
         requires live { has_failed_here self.old ≡ false }
         requires there { sector_id < count_of (sectors_of self.old) }
-        requires no_difat { IsNoneOf (difat_sectors_of self.old) sector_id }
-        requires no_fat { IsNoneOf (fat_sectors_of self.old) sector_id }
+        requires no_difat { IsNotIn (difat_sectors_of self.old) sector_id }
+        requires no_fat { IsNotIn (fat_sectors_of self.old) sector_id }
         requires lowest { (k : ℕ) → k < sector_id → slice_index (fat_of self.old) k ≡ free
-            → IsNoneOf (difat_sectors_of self.old) k → IsNoneOf (fat_sectors_of self.old) k → ⊥ }
+            → IsNotIn (difat_sectors_of self.old) k → IsNotIn (fat_sectors_of self.old) k → ⊥ }
         ensures writes { WritesBeside (sector_start (version_of self.old) sector_id)
             (first_bytes init.entry (sector_len (version_of self.old))) self.old self.new }
         ensures runs { (runs_of self.new ≡ runs_of self.old)
             × (capacity_of self.new ≡ capacity_of self.old) }
         ensures memory { KeepsMemory self.old self.new }
-        ensures live { OnOk result (has_failed_here self.new ≡ false) }
-        ensures err { OnErr result (has_failed_here self.new ≡ true) }
-        ensures cause { IfErr result (HasCauseBelow self.old self.new) }
-        ensures fault { IfErr result (IsFaultUnless ⊥) }
+        ensures not_failed { OnOk result (has_failed_here self.new ≡ false) }
+        ensures after_error { OnErr result (has_failed_here self.new ≡ true) }
+        ensures cause { IfErr result (IsJustifiedBySectors self.old self.new) }
+        ensures errors { IfErr result (IsFaultOrInvalidInputIf ⊥) }
     {
         self.first_free = sector_id as usize;
         self.sectors.init_sector(sector_id, init)
@@ -133,17 +133,18 @@ impl<F: Medium> Allocator<F> {
         requires live { has_failed_here self.old ≡ false }
         requires orderly { IsTrue (orderly_of self.old) }
         requires there { sector_id < length (fat_of self.old) }
-        requires no_difat { IsNoneOf (difat_sectors_of self.old) sector_id }
-        requires no_fat { IsNoneOf (fat_sectors_of self.old) sector_id }
-        requires lowest { HasNoneBelow self.old sector_id }
+        requires no_difat { IsNotIn (difat_sectors_of self.old) sector_id }
+        requires no_fat { IsNotIn (fat_sectors_of self.old) sector_id }
+        requires lowest { HasNoFreeBelow self.old sector_id }
         requires room { runs_of self.old + 2 ≤ capacity_of self.old }
-        ensures occupies { OnOk result (Occupies init.entry self.old self.new sector_id) }
+        ensures occupies { OnOk result (AllocatesAndFills init.entry self.old self.new sector_id) }
         ensures fat { OnOk result (fat_of self.new
             ≡ slice_set (fat_of self.old) sector_id end_of_chain) }
         ensures none { OnErr result (GrowsFat [] [] self.old self.new) }
         ensures spends { (entries n : ℕ) → HasMemory self.old (entries + 1) n
             → OnOk result (HasMemory self.new entries n) }
-        ensures attempts { Attempts result (sectors_of self.old) (sectors_of self.new) }
+        ensures error_contract { WriteErrorContract result (sectors_of self.old)
+            (sectors_of self.new) }
     {
         self.init_beside(sector_id, init)?;
         self.set_entry(sector_id, END_OF_CHAIN)?;
@@ -155,11 +156,12 @@ impl<F: Medium> Allocator<F> {
     fn take(&mut self, init: NewSector<'_>) -> Result<u32, Error>
         requires live { has_failed_here self.old ≡ false }
         requires orderly { IsTrue (orderly_of self.old) }
-        ensures takes { IfOk result (TakesOne init.entry self.old self.new) }
-        ensures full { IsErrOf result Full → IsFull self.old × AllRests self.old self.new }
+        ensures takes { IfOk result (AllocatesOneSector init.entry self.old self.new) }
+        ensures full_only_if { IsErrOf result Full → IsFull self.old
+            × OnlyReadsAllocator self.old self.new }
         ensures none { OnErr result (GrowsFat [] [] self.old self.new) }
         ensures spends { Spends 0 (λ e. e ≡ Full) result self.old self.new }
-        ensures tries { Tries IsTheLast result self.old self.new }
+        ensures tries { MemoryErrorContract IsTheLast result self.old self.new }
     {
         self.reserve_growth(1)?;
         self.take_reserved(init)
@@ -170,11 +172,12 @@ impl<F: Medium> Allocator<F> {
         requires live { has_failed_here self.old ≡ false }
         requires orderly { IsTrue (orderly_of self.old) }
         requires memory { HasMemory self.old 0 1 }
-        ensures takes { IfOk result (TakesOne init.entry self.old self.new) }
-        ensures full { IsErrOf result Full → IsFull self.old × AllRests self.old self.new }
+        ensures takes { IfOk result (AllocatesOneSector init.entry self.old self.new) }
+        ensures full_only_if { IsErrOf result Full → IsFull self.old
+            × OnlyReadsAllocator self.old self.new }
         ensures none { OnErr result (GrowsFat [] [] self.old self.new) }
         ensures spends { Spends 0 (λ e. e ≡ Full) result self.old self.new }
-        ensures tries { Tries IsTheLast result self.old self.new }
+        ensures tries { MemoryErrorContract IsTheLast result self.old self.new }
     {
         if let Some(sector_id) = self.find_free() {
             self.take_free(sector_id, init)?;
@@ -189,19 +192,19 @@ impl<F: Medium> Allocator<F> {
     /// `Memory`, each with nothing changed. After a fault in a write it has failed.
     pub fn begin_chain(&mut self, init: NewSector<'_>) -> Result<u32, Error>
         ensures chain { IfOk result (λ n. IsChain (fat_of self.new) n (n ∷ [])) }
-        ensures takes { IfOk result (λ n. TakesIn (n ∷ []) (n ∷ []) self.old self.new) }
+        ensures takes { IfOk result (λ n. AllocatesSectors (n ∷ []) (n ∷ []) self.old self.new) }
         ensures leaves { IfOk result (λ n. IsTrue (is_honest self.old)
-            → Leaves (sector (version_of self.old)) [] (n ∷ n ∷ []) (seen_of self.old)
+            → ChangesAtMost (sector (version_of self.old)) [] (n ∷ n ∷ []) (seen_of self.old)
             (seen_of self.new)) }
-        ensures fresh { IfOk result (IsFresh init.entry self.old self.new) }
+        ensures fresh { IfOk result (IsNewSector init.entry self.old self.new) }
         ensures appended { IfOk result (IsLastResort self.old) }
-        ensures refused { IsErrOf result InvalidData
-            → (IsTrue (orderly_of self.old) → ⊥) × AllRests self.old self.new }
-        ensures full { IsErrOf result Full → IsTrue (orderly_of self.old) × IsFull self.old
-            × AllRests self.old self.new }
-        ensures none { OnErr result (TakesIn [] [] self.old self.new) }
+        ensures refused_only_if { IsErrOf result InvalidData
+            → (IsTrue (orderly_of self.old) → ⊥) × OnlyReadsAllocator self.old self.new }
+        ensures full_only_if { IsErrOf result Full → IsTrue (orderly_of self.old) × IsFull self.old
+            × OnlyReadsAllocator self.old self.new }
+        ensures none { OnErr result (AllocatesSectors [] [] self.old self.new) }
         ensures spends { Spends 0 IsInvalidOrFull result self.old self.new }
-        ensures changes { ChangesTables IsInvalidOrFull result self.old self.new }
+        ensures error_contract { TableErrorContract IsInvalidOrFull result self.old self.new }
     {
         if self.sectors.is_failed() {
             return Err(Error::Failed);
@@ -216,13 +219,13 @@ impl<F: Medium> Allocator<F> {
     fn last_of(&self, start: u32) -> Result<u32, Error>
         ensures chain { IfOk result (λ last. (ids : List ℕ)
             × IsChain (fat_of self.now) start (ids ++ last ∷ [])) }
-        ensures live { OnOk result (has_failed_here self.now ≡ false) }
-        ensures failed { has_failed_here self.now ≡ true → IsErrOf result Failed }
+        ensures not_failed { OnOk result (has_failed_here self.now ≡ false) }
+        ensures when_failed { has_failed_here self.now ≡ true → IsErrOf result Failed }
         ensures none { IsErrOf result InvalidData → (ids : List ℕ) (last : ℕ)
             → IsChain (fat_of self.now) start (ids ++ last ∷ []) → ⊥ }
         ensures memory { slice_get (fat_of self.now) start ≡ Some end_of_chain
             → IsErrOf result Memory → ⊥ }
-        ensures error { IfErr result (λ e. ((e ≡ Failed) × (has_failed_here self.now ≡ true))
+        ensures errors { IfErr result (λ e. ((e ≡ Failed) × (has_failed_here self.now ≡ true))
             ⊎ (e ≡ InvalidData) ⊎ (e ≡ Memory)) }
     {
         if self.next(start)? == END_OF_CHAIN {
@@ -244,23 +247,24 @@ impl<F: Medium> Allocator<F> {
         ensures extends { IfOk result (λ n. (ids : List ℕ) × (last : ℕ)
             × IsChain (fat_of self.old) start (ids ++ last ∷ [])
             × IsChain (fat_of self.new) start (ids ++ last ∷ n ∷ [])
-            × TakesIn (n ∷ []) (last ∷ n ∷ []) self.old self.new) }
+            × AllocatesSectors (n ∷ []) (last ∷ n ∷ []) self.old self.new) }
         ensures leaves { IfOk result (λ n. (ids : List ℕ) × (last : ℕ)
             × IsChain (fat_of self.old) start (ids ++ last ∷ [])
             × (IsTrue (is_honest self.old)
-            → Leaves (sector (version_of self.old)) [] (n ∷ last ∷ n ∷ []) (seen_of self.old)
+            → ChangesAtMost (sector (version_of self.old)) [] (n ∷ last ∷ n ∷ []) (seen_of self.old)
             (seen_of self.new))) }
-        ensures none { OnErr result (TakesIn [] [] self.old self.new) }
-        ensures fresh { IfOk result (IsFresh init.entry self.old self.new) }
+        ensures none { OnErr result (AllocatesSectors [] [] self.old self.new) }
+        ensures fresh { IfOk result (IsNewSector init.entry self.old self.new) }
         ensures appended { IfOk result (IsLastResort self.old) }
-        ensures refused { IsErrOf result InvalidData
+        ensures refused_only_if { IsErrOf result InvalidData
             → (IsTrue (orderly_of self.old) → (ids : List ℕ) (last : ℕ)
-            → IsChain (fat_of self.old) start (ids ++ last ∷ []) → ⊥) × AllRests self.old self.new }
-        ensures full { IsErrOf result Full → IsTrue (orderly_of self.old) × IsFull self.old
-            × AllRests self.old self.new }
+            → IsChain (fat_of self.old) start (ids ++ last ∷ []) → ⊥)
+            × OnlyReadsAllocator self.old self.new }
+        ensures full_only_if { IsErrOf result Full → IsTrue (orderly_of self.old) × IsFull self.old
+            × OnlyReadsAllocator self.old self.new }
         ensures spends { slice_get (fat_of self.old) start ≡ Some end_of_chain
             → Spends 0 IsInvalidOrFull result self.old self.new }
-        ensures changes { ChangesTables IsInvalidOrFull result self.old self.new }
+        ensures error_contract { TableErrorContract IsInvalidOrFull result self.old self.new }
     {
         let last = self.last_of(start)?;
         if !self.is_orderly {
@@ -283,22 +287,23 @@ impl<F: Medium> Allocator<F> {
         ensures extends { OnOk result ((ids : List ℕ) × (more : List ℕ) × (changed : List ℕ)
             × IsChain (fat_of self.old) start ids
             × IsChain (fat_of self.new) start (ids ++ more) × (length more ≡ count)
-            × TakesIn more changed self.old self.new × AreAmong (ids ++ more) changed
-            × (IsTrue (is_honest self.old) → AreWritable (MayWrite self.old)
+            × AllocatesSectors more changed self.old self.new × AreSubsetOf (ids ++ more) changed
+            × (IsTrue (is_honest self.old) → AreSectorsWritable (MayWrite self.old)
             (version_of self.old) ids
             → joined (version_of self.old) (bytes_of self.new) (ids ++ more)
             ≡ joined (version_of self.old) (bytes_of self.old) ids
             ++ copies count (initial init (sector_len (version_of self.old))))) }
         ensures some { OnErr result ((more : List ℕ) × (changed : List ℕ)
-            × TakesIn more changed self.old self.new) }
-        ensures refused { IsErrOf result InvalidData
+            × AllocatesSectors more changed self.old self.new) }
+        ensures refused_only_if { IsErrOf result InvalidData
             → (IsTrue (orderly_of self.old) → (ids : List ℕ) (last : ℕ)
-            → IsChain (fat_of self.old) start (ids ++ last ∷ []) → ⊥) × AllRests self.old self.new }
-        ensures full { IsErrOf result Full → IsTrue (orderly_of self.old)
-            × (has_failed_here self.new ≡ false → LacksNumbers self.old count
+            → IsChain (fat_of self.old) start (ids ++ last ∷ []) → ⊥)
+            × OnlyReadsAllocator self.old self.new }
+        ensures full_only_if { IsErrOf result Full → IsTrue (orderly_of self.old)
+            × (has_failed_here self.new ≡ false → LacksSectorNumbers self.old count
             ⊎ ((ids : List ℕ) × IsChain (fat_of self.old) start ids
             × (greatest_regular < length ids + count))) }
-        ensures answers { FatAnswers IsInvalidOrFull result self.old self.new }
+        ensures error_contract { FatErrorContract IsInvalidOrFull result self.old self.new }
     {
         let mut links = self.open_chain(start)?;
         let old = links.sector_ids().len();
@@ -324,20 +329,21 @@ impl<F: Medium> Allocator<F> {
             ≡ sectors_for (links_version links.old) len) }
         ensures longer { (more : List ℕ) × (changed : List ℕ)
             × (ids_of links.new ≡ ids_of links.old ++ more)
-            × TakesIn more changed self.old self.new
-            × (IsLinked (fat_of self.old) (ids_of links.old)
-            → AreAmong (ids_of links.new) changed) }
-        ensures linked { OnOk result (IsLinked (fat_of self.old) (ids_of links.old)
-            → IsLinked (fat_of self.new) (ids_of links.new)) }
+            × AllocatesSectors more changed self.old self.new
+            × (IsChainInTable (fat_of self.old) (ids_of links.old)
+            → AreSubsetOf (ids_of links.new) changed) }
+        ensures linked { OnOk result (IsChainInTable (fat_of self.old) (ids_of links.old)
+            → IsChainInTable (fat_of self.new) (ids_of links.new)) }
         ensures filled { OnOk result (FillsBehind init links.old links.new self.old self.new) }
-        ensures refused { IsErrOf result InvalidData → (IsTrue (orderly_of self.old)
-            → IsLinked (fat_of self.old) (ids_of links.old) → ⊥) × AllRests self.old self.new }
-        ensures full { IsErrOf result Full → IsTrue (orderly_of self.old)
+        ensures refused_only_if { IsErrOf result InvalidData → (IsTrue (orderly_of self.old)
+            → IsChainInTable (fat_of self.old) (ids_of links.old) → ⊥)
+            × OnlyReadsAllocator self.old self.new }
+        ensures full_only_if { IsErrOf result Full → IsTrue (orderly_of self.old)
             × (has_failed_here self.new ≡ false
-            → LacksNumbers self.old (sectors_for (links_version links.old) len
+            → LacksSectorNumbers self.old (sectors_for (links_version links.old) len
             - length (ids_of links.old))
             ⊎ (greatest_regular + 1 < sectors_for (links_version links.old) len)) }
-        ensures answers { FatAnswers IsInvalidOrFull result self.old self.new }
+        ensures error_contract { FatErrorContract IsInvalidOrFull result self.old self.new }
     {
         let mut chain = Chain::new(self, links, init);
         chain.set_len(len)
@@ -351,11 +357,11 @@ impl<F: Medium> GrowsChains for Allocator<F> {
 
     ghost tables = { tables_of };
 
-    ghost lacks = { LacksNumbers };
+    ghost lacks = { LacksSectorNumbers };
 
     ghost is_full = { IsFull };
 
-    ghost grows = { TakesIn };
+    ghost grows = { AllocatesSectors };
 
     fn begin_chain(&mut self, init: NewSector<'_>) -> Result<u32, Error> {
         Allocator::begin_chain(self, init)

@@ -8,7 +8,7 @@ use Rattle.cfb_sectors.specs.Sectors.{end_of_chain, greatest_regular, Chain}
 use Rattle.cfb_sectors.proofs.OneChain.{chain_unique}
 use Rattle.cfb_soundness.specs.Marks.{times}
 use Rattle.cfb_soundness.proofs.Taking.{times_append}
-use Rattle.cfb_findings.specs.Counted.{left_to_count, AreCounts, FollowLinks}
+use Rattle.cfb_findings.specs.Counted.{left_to_count, CountsMatchUses, FollowLinks}
 use Rattle.cfb_findings.specs.Links.{behind}
 use Rattle.cfb_findings.proofs.Linking.{behind_regular, entry_at}
 
@@ -29,11 +29,11 @@ times_least : (n m : ℕ) (xs : List ℕ) → times n xs ≤ times n (m ∷ xs)
 times_least n m xs = omega arith
 
 -- counts of a list are those of another with the same parts
-pub same_counts : (xs ys cs : List ℕ) → ((n : ℕ) → times n xs ≡ times n ys) → AreCounts xs cs → AreCounts ys cs
+pub same_counts : (xs ys cs : List ℕ) → ((n : ℕ) → times n xs ≡ times n ys) → CountsMatchUses xs cs → CountsMatchUses ys cs
 same_counts xs ys cs same so n below = so n below ∙ ap (λ k. min 2 k) (same n)
 
-pub counts_more : (parts before cs : List ℕ) (i : ℕ) → i < length parts → AreCounts (get_or parts i 0 ∷ (take i parts ++ before)) cs
-    → AreCounts (take (i + 1) parts ++ before) cs
+pub counts_more : (parts before cs : List ℕ) (i : ℕ) → i < length parts → CountsMatchUses (get_or parts i 0 ∷ (take i parts ++ before)) cs
+    → CountsMatchUses (take (i + 1) parts ++ before) cs
 counts_more parts before cs i below so =
     let x = get_or parts i 0 in
     same_counts (x ∷ (take i parts ++ before)) (take (i + 1) parts ++ before) cs
@@ -46,13 +46,13 @@ pub record Walked (links ids before : List ℕ) (at : ℕ) (counts : List ℕ) :
   pub rest : List ℕ
   pub parted : ids ≡ front ++ rest
   pub chain : Chain links at rest
-  pub counted : AreCounts (front ++ before) counts
+  pub counted : CountsMatchUses (front ++ before) counts
 
-pub walk_begins : (links ids before : List ℕ) (start : ℕ) (cs : List ℕ) → Chain links start ids → AreCounts before cs → Walked links ids before start cs
+pub walk_begins : (links ids before : List ℕ) (start : ℕ) (cs : List ℕ) → Chain links start ids → CountsMatchUses before cs → Walked links ids before start cs
 walk_begins links ids before start cs chain so = record { front = []; rest = ids; parted = refl; chain = chain; counted = so }
 
-goes : (links ids before cs ds : List ℕ) (at : ℕ) (front rest : List ℕ) → ids ≡ front ++ rest → Chain links at rest → AreCounts (front ++ before) cs
-    → at ≤ greatest_regular → ((parts : List ℕ) → AreCounts parts cs → AreCounts (at ∷ parts) ds) → Walked links ids before (behind links at) ds
+goes : (links ids before cs ds : List ℕ) (at : ℕ) (front rest : List ℕ) → ids ≡ front ++ rest → Chain links at rest → CountsMatchUses (front ++ before) cs
+    → at ≤ greatest_regular → ((parts : List ℕ) → CountsMatchUses parts cs → CountsMatchUses (at ∷ parts) ds) → Walked links ids before (behind links at) ds
 goes links ids before cs ds at front [] parted chain so low step = absurd (omega (arith, chain, low))
 goes links ids before cs ds at front (x ∷ rest) parted (is, regular, next, found, more) so low step =
     let here : behind links at ≡ next = behind_regular links at regular ∙ entry_at links at at next found in
@@ -67,11 +67,11 @@ goes links ids before cs ds at front (x ∷ rest) parted (is, regular, next, fou
     }
 
 pub walk_goes : (links ids before cs ds : List ℕ) (at : ℕ) → Walked links ids before at cs → at ≤ greatest_regular
-    → ((parts : List ℕ) → AreCounts parts cs → AreCounts (at ∷ parts) ds) → Walked links ids before (behind links at) ds
+    → ((parts : List ℕ) → CountsMatchUses parts cs → CountsMatchUses (at ∷ parts) ds) → Walked links ids before (behind links at) ds
 walk_goes links ids before cs ds at w low step = goes links ids before cs ds at w.front w.rest w.parted w.chain w.counted low step
 
-ends : (links ids before cs : List ℕ) (at : ℕ) (front rest : List ℕ) → ids ≡ front ++ rest → Chain links at rest → AreCounts (front ++ before) cs
-    → greatest_regular < at → AreCounts (ids ++ before) cs
+ends : (links ids before cs : List ℕ) (at : ℕ) (front rest : List ℕ) → ids ≡ front ++ rest → Chain links at rest → CountsMatchUses (front ++ before) cs
+    → greatest_regular < at → CountsMatchUses (ids ++ before) cs
 ends links ids before cs at front [] parted chain so high =
     same_counts (front ++ before) (ids ++ before) cs
     (λ n. omega (arith, times_append n front before, times_append n ids before, ap (times n) parted, times_append n front []))
@@ -79,7 +79,7 @@ ends links ids before cs at front [] parted chain so high =
 ends links ids before cs at front (x ∷ rest) parted (is, regular, next, found, more) so high = absurd (omega (arith, regular, high))
 
 -- at the end of a chain all of it is counted
-pub walk_ends : (links ids before cs : List ℕ) (at : ℕ) → Walked links ids before at cs → greatest_regular < at → AreCounts (ids ++ before) cs
+pub walk_ends : (links ids before cs : List ℕ) (at : ℕ) → Walked links ids before at cs → greatest_regular < at → CountsMatchUses (ids ++ before) cs
 walk_ends links ids before cs at w high = ends links ids before cs at w.front w.rest w.parted w.chain w.counted high
 
 -- a chain doesn't come to a part again
@@ -109,8 +109,8 @@ twice_on links before at (x ∷ rest) follow (is, regular, next, found, more) tw
     (eqb_tells n x)
 
 stops : (links ids before cs ds : List ℕ) (start at : ℕ) (front rest : List ℕ) → ids ≡ front ++ rest → Chain links start ids → Chain links at rest
-    → AreCounts (front ++ before) cs → at ≤ greatest_regular → length links ≤ length cs → (at < length cs → 2 ≤ slice_index cs at) → FollowLinks links before
-    → AreCounts (at ∷ (front ++ before)) ds → AreCounts (ids ++ before) ds
+    → CountsMatchUses (front ++ before) cs → at ≤ greatest_regular → length links ≤ length cs → (at < length cs → 2 ≤ slice_index cs at) → FollowLinks links before
+    → CountsMatchUses (at ∷ (front ++ before)) ds → CountsMatchUses (ids ++ before) ds
 stops links ids before cs ds start at front [] parted whole chain so low room full follow new n below = absurd (omega (arith, chain, low))
 stops links ids before cs ds start at front (x ∷ rest) parted whole (is, regular, next, found, more) so low room full follow new n below =
     let inside : at < length cs = omega (arith, slice_get_within links at next found, room) in
@@ -131,7 +131,7 @@ stops links ids before cs ds start at front (x ∷ rest) parted whole (is, regul
 
 -- where a part is counted twice already, so are all behind it
 pub walk_stops : (links ids before cs ds : List ℕ) (start at : ℕ) → Walked links ids before at cs → Chain links start ids → at ≤ greatest_regular → length links ≤ length cs
-    → (at < length cs → 2 ≤ slice_index cs at) → FollowLinks links before → ((parts : List ℕ) → AreCounts parts cs → AreCounts (at ∷ parts) ds) → AreCounts (ids ++ before) ds
+    → (at < length cs → 2 ≤ slice_index cs at) → FollowLinks links before → ((parts : List ℕ) → CountsMatchUses parts cs → CountsMatchUses (at ∷ parts) ds) → CountsMatchUses (ids ++ before) ds
 walk_stops links ids before cs ds start at w whole low room full follow step =
     stops links ids before cs ds start at w.front w.rest w.parted whole w.chain w.counted low room full follow (step (w.front ++ before) w.counted)
 
@@ -158,5 +158,5 @@ pub follow_both : (links xs ys : List ℕ) → FollowLinks links xs → FollowLi
 follow_both links xs ys first second n m at on = omega (arith, first n m at on, second n m at on, times_append n xs ys, times_append m xs ys)
 
 pub walk_goes_to : (links ids before cs ds : List ℕ) (at next : ℕ) → next ≡ behind links at → Walked links ids before at cs → at ≤ greatest_regular
-    → ((parts : List ℕ) → AreCounts parts cs → AreCounts (at ∷ parts) ds) → Walked links ids before next ds
+    → ((parts : List ℕ) → CountsMatchUses parts cs → CountsMatchUses (at ∷ parts) ds) → Walked links ids before next ds
 walk_goes_to links ids before cs ds at next is w low step = subst (λ n. Walked links ids before n ds) (sym is) (walk_goes links ids before cs ds at w low step)

@@ -4,7 +4,7 @@ use Rattle.std.specs.Prelude.{Some, nat_le, slice_get, slice_index_or, if◌then
 use Rattle.std.proofs.lemmas.Bool.Decides.{leb_tells}
 use Rattle.cfb_sectors.specs.Sectors.{end_of_chain, greatest_regular, Chain}
 use Rattle.cfb_sectors.proofs.Chains.{chain_short}
-use Rattle.cfb_findings.specs.Links.{behind, linked, AreEnds, HasChain}
+use Rattle.cfb_findings.specs.Links.{behind, linked, AreEnds, HasChainFrom}
 
 -- what a table has at a number, or that it has nothing there
 record Found (xs : List ℕ) (n d : ℕ) : Type 0 where
@@ -81,10 +81,10 @@ chain_ends links (suc k) start (x ∷ ids) (is, regular, next, found, rest) few 
     let here : behind links start ≡ next = behind_regular links start regular ∙ entry_at links start start next found in
     ap (linked k links) here ∙ chain_ends links k next ids rest (omega (arith, few))
 
-end_chains : (links : List ℕ) (k start : ℕ) → linked k links start ≡ end_of_chain → HasChain links start
+end_chains : (links : List ℕ) (k start : ℕ) → linked k links start ≡ end_of_chain → HasChainFrom links start
 end_chains links zero start is = ([], is)
 end_chains links (suc k) start is =
-    let later : HasChain links (behind links start) = end_chains links k (behind links start) is in
+    let later : HasChainFrom links (behind links start) = end_chains links k (behind links start) is in
     ⊎_elim
     (λ low. ⊎_elim
     (λ f. (start ∷ later.0, (refl, low.1, f.entry, f.found, subst (λ n. Chain links n later.0) (behind_regular links start low.1 ∙ f.same) later.1)))

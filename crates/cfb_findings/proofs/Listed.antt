@@ -12,7 +12,7 @@ use Rattle.cfb_tree.specs.Directory.{Entry}
 use Rattle.cfb_soundness.specs.Entries.{AreTreeEntries}
 use Rattle.cfb_soundness.specs.Marks.{times}
 use Rattle.cfb_soundness.proofs.Taking.{times_append}
-use Rattle.cfb_findings.specs.Counted.{AreCounts, FollowLinks}
+use Rattle.cfb_findings.specs.Counted.{CountsMatchUses, FollowLinks}
 use Rattle.cfb_findings.specs.Findings.{is_shared, shared, start_where, starts_where, ChainOrNone, ChainsFrom, HasTree}
 use Rattle.cfb_findings.proofs.Counting.{chain_follows, follow_both, same_counts}
 use Rattle.cfb_findings.proofs.Found.{filter_first}
@@ -32,13 +32,13 @@ pub record ChainsCounted (links starts counts : List ℕ) : Type 0 where
   pub all : List ℕ
   pub chains : ChainsFrom links starts all
   pub follow : FollowLinks links all
-  pub counted : AreCounts all counts
+  pub counted : CountsMatchUses all counts
 
-pub chains_none : (links cs : List ℕ) → AreCounts [] cs → ChainsCounted links [] cs
+pub chains_none : (links cs : List ℕ) → CountsMatchUses [] cs → ChainsCounted links [] cs
 chains_none links cs so = record { all = []; chains = refl; follow = λ n m at on. omega arith; counted = so }
 
 pub chains_step : (links starts cs ds : List ℕ) (i : ℕ) → i < length starts → ChainsCounted links (take i starts) cs
-    → ((before : List ℕ) → FollowLinks links before → AreCounts before cs → (own : List ℕ) × ChainOrNone links (get_or starts i 0) own × AreCounts (own ++ before) ds)
+    → ((before : List ℕ) → FollowLinks links before → CountsMatchUses before cs → (own : List ℕ) × ChainOrNone links (get_or starts i 0) own × CountsMatchUses (own ++ before) ds)
     → ChainsCounted links (take (i + 1) starts) ds
 chains_step links starts cs ds i below c step =
     let (own, is, so) = step c.all c.follow c.counted in
@@ -54,13 +54,13 @@ index_same [] n v below is = absurd (omega (arith, below))
 index_same (c ∷ cs) zero v below is = sym is
 index_same (c ∷ cs) (suc n) v below is = index_same cs n v (omega (arith, below)) is
 
-pub unshared : (uses cs : List ℕ) (n v : ℕ) → AreCounts uses cs → n < length cs → v ≡ slice_index_or cs n v → v < 2 → false ≡ is_shared uses n
+pub unshared : (uses cs : List ℕ) (n v : ℕ) → CountsMatchUses uses cs → n < length cs → v ≡ slice_index_or cs n v → v < 2 → false ≡ is_shared uses n
 unshared uses cs n v so below is few =
     let less : times n uses < 2 = omega (arith, so n below, index_same cs n v below is, few) in
     let test : nat_le 2 (times n uses) ≡ false = grind arith in
     sym test
 
-pub is_shared_so : (uses cs : List ℕ) (n v : ℕ) → AreCounts uses cs → n < length cs → v ≡ slice_index_or cs n v → 2 ≤ v → true ≡ is_shared uses n
+pub is_shared_so : (uses cs : List ℕ) (n v : ℕ) → CountsMatchUses uses cs → n < length cs → v ≡ slice_index_or cs n v → 2 ≤ v → true ≡ is_shared uses n
 is_shared_so uses cs n v so below is two =
     let more : 2 ≤ times n uses = omega (arith, so n below, index_same cs n v below is, two) in
     let test : nat_le 2 (times n uses) ≡ true = grind arith in
@@ -95,7 +95,7 @@ tree_is directory found ids all t = all t.root t.children ids t.content t.root_f
 
 -- five lists, one after the other
 pub five_before : (a b c d e a' b' c' d' e' before cs : List ℕ) → a ≡ a' → b ≡ b' → c ≡ c' → d ≡ d' → e ≡ e'
-    → AreCounts (a ++ (b ++ (c ++ (d ++ (e ++ before))))) cs → AreCounts ((a' ++ b' ++ c' ++ d' ++ e') ++ before) cs
+    → CountsMatchUses (a ++ (b ++ (c ++ (d ++ (e ++ before))))) cs → CountsMatchUses ((a' ++ b' ++ c' ++ d' ++ e') ++ before) cs
 five_before a b c d e a' b' c' d' e' before cs a_is b_is c_is d_is e_is so = same_counts (a ++ (b ++ (c ++ (d ++ (e ++ before))))) ((a' ++ b' ++ c' ++ d' ++ e') ++ before) cs
     (λ n. omega (
       arith,

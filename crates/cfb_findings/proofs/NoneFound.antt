@@ -11,7 +11,7 @@ use Rattle.cfb_sectors.proofs.OneChain.{chain_unique}
 use Rattle.cfb_tree.specs.Directory.{kind_stream, Entry}
 use Rattle.cfb_tree.proofs.NamesRead.{all_append}
 use Rattle.cfb_soundness.specs.Marks.{mark, times, CanTake}
-use Rattle.cfb_soundness.specs.Uses.{AreInUse, EntriesHave, Tables}
+use Rattle.cfb_soundness.specs.Uses.{AreInUse, EntriesHave, SectorTables}
 use Rattle.cfb_soundness.proofs.Judged.{Judged}
 use Rattle.cfb_soundness.proofs.Taking.{all_front}
 use Rattle.cfb_findings.specs.Broken.{AreBroken}
@@ -43,14 +43,14 @@ used_marked fat (n ∷ sectors) used =
     ap (λ b. cond b (n ∷ unmarked fat sectors) (unmarked fat sectors)) test ∙ used_marked fat sectors used.1
 
 -- no entry is broken just where all have what they use
-pub whole_have : (t : Tables) (ids : List ℕ) → AreBroken t ids [] → (sectors : List ℕ) × (minis : List ℕ) × EntriesHave t ids sectors minis
+pub whole_have : (t : SectorTables) (ids : List ℕ) → AreBroken t ids [] → (sectors : List ℕ) × (minis : List ℕ) × EntriesHave t ids sectors minis
 whole_have t [] none = ([], [], (refl, refl))
 whole_have t (id ∷ ids) (inl (whole, rest)) =
     let more = whole_have t ids rest in
     (whole.0 ++ more.0, whole.1 ++ more.1, (whole.0, more.0, whole.1, more.1, whole.2, more.2, refl, refl))
 whole_have t (id ∷ ids) (inr (broken, rest, is, later)) = absurd (cc)
 
-pub have_whole : (t : Tables) (ids found sectors minis : List ℕ) → EntriesHave t ids sectors minis → AreBroken t ids found → found ≡ []
+pub have_whole : (t : SectorTables) (ids found sectors minis : List ℕ) → EntriesHave t ids sectors minis → AreBroken t ids found → found ≡ []
 have_whole t [] found sectors minis have none = none
 have_whole t (id ∷ ids) found sectors minis (own, rest, own_minis, rest_minis, here, later, is, minis_is) (inl (whole, more)) = have_whole t ids found rest rest_minis later more
 have_whole t (id ∷ ids) found sectors minis (own, rest, own_minis, rest_minis, here, later, is, minis_is) (inr (broken, r, e, more)) = absurd (broken (own, own_minis, here))
@@ -77,13 +77,13 @@ other_not_long e unlike = grind (arith, nat_tests)
 other_not_short : (e : Entry) → (e.kind ≡ kind_stream → ⊥) → is_short e ≡ false
 other_not_short e unlike = grind (arith, nat_tests)
 
-starts_here : (is : Entry → Bool) (t : Tables) (id : ℕ) (ids : List ℕ) (e : Entry) (b : Bool) → slice_get t.entries id ≡ Some e → is e ≡ b
+starts_here : (is : Entry → Bool) (t : SectorTables) (id : ℕ) (ids : List ℕ) (e : Entry) (b : Bool) → slice_get t.entries id ≡ Some e → is e ≡ b
     → starts_where is t.entries (id ∷ ids) ≡ (if b then e.start ∷ [] else []) ++ starts_where is t.entries ids
 starts_here is t id ids e b found test =
     ap (λ o. start_where is o ++ starts_where is t.entries ids) found ∙ ap (λ x. (if x then e.start ∷ [] else []) ++ starts_where is t.entries ids) test
 
 -- the chains that are counted are those that the entries have
-pub long_streams : (t : Tables) (ids sectors minis streams : List ℕ) → EntriesHave t ids sectors minis → ChainsFrom t.fat (starts_where is_long t.entries ids) streams → streams ≡ sectors
+pub long_streams : (t : SectorTables) (ids sectors minis streams : List ℕ) → EntriesHave t ids sectors minis → ChainsFrom t.fat (starts_where is_long t.entries ids) streams → streams ≡ sectors
 long_streams t [] sectors minis streams have chains = chains ∙ sym have.0
 long_streams t (id ∷ ids) sectors minis streams (own, rest, own_minis, rest_minis, h, later, is, minis_is) chains = ⊎_elim
     (λ kind. ⊎_elim
@@ -104,7 +104,7 @@ long_streams t (id ∷ ids) sectors minis streams (own, rest, own_minis, rest_mi
     long_streams t ids rest rest_minis streams later (subst (λ ss. ChainsFrom t.fat ss streams) start chains) ∙ ap (λ l. l ++ rest) (sym none.0) ∙ sym is)
     (eqb_tells h.entry.kind kind_stream)
 
-pub short_streams : (t : Tables) (ids sectors minis streams : List ℕ) → EntriesHave t ids sectors minis → ChainsFrom t.mini_fat (starts_where is_short t.entries ids) streams → streams ≡ minis
+pub short_streams : (t : SectorTables) (ids sectors minis streams : List ℕ) → EntriesHave t ids sectors minis → ChainsFrom t.mini_fat (starts_where is_short t.entries ids) streams → streams ≡ minis
 short_streams t [] sectors minis streams have chains = chains ∙ sym have.1
 short_streams t (id ∷ ids) sectors minis streams (own, rest, own_minis, rest_minis, h, later, is, minis_is) chains = ⊎_elim
     (λ kind. ⊎_elim
@@ -189,7 +189,7 @@ all_less : (a b : ℕ) (xs : List ℕ) → a ≤ b → AllByRecursion (λ n. n <
 all_less a b [] low all = tt
 all_less a b (x ∷ xs) low all = (omega (arith, low, all.0), all_less a b xs low all.1)
 
-have_below : (t : Tables) (ids sectors minis : List ℕ) → EntriesHave t ids sectors minis
+have_below : (t : SectorTables) (ids sectors minis : List ℕ) → EntriesHave t ids sectors minis
     → AllByRecursion (λ n. n < min (length t.fat) (greatest_regular + 1)) sectors × AllByRecursion (λ n. n < min (length t.mini_fat) (greatest_regular + 1)) minis
 have_below t [] sectors minis (none, no_minis) =
     (subst (AllByRecursion (λ n. n < min (length t.fat) (greatest_regular + 1))) (sym none) tt, subst (AllByRecursion (λ n. n < min (length t.mini_fat) (greatest_regular + 1))) (sym no_minis) tt)
@@ -206,7 +206,7 @@ have_below t (id ∷ ids) sectors minis (own, rest, own_minis, rest_minis, h, la
     (eqb_tells h.entry.kind kind_stream) in
     (subst (AllByRecursion P) (sym is) (all_append P own rest here.0 more.0), subst (AllByRecursion Q) (sym minis_is) (all_append Q own_minis rest_minis here.1 more.1))
 
-module _ (t : Tables) (count : ℕ) (fs ds tables ids : List ℕ) where
+module _ (t : SectorTables) (count : ℕ) (fs ds tables ids : List ℕ) where
   pub judged_from_none : count ≤ length t.fat → length t.fat ≤ count → unmarked t.fat (fs ++ ds) ≡ [] → AreBroken t ids [] → AllByRecursion (λ n. n < count) tables
       → (streams minis : List ℕ) → ChainsFrom t.fat (starts_where is_long t.entries ids) streams → shared count (tables ++ streams) ≡ []
       → ChainsFrom t.mini_fat (starts_where is_short t.entries ids) minis → shared (min (length t.mini_fat) (greatest_regular + 1)) minis ≡ []
@@ -260,7 +260,7 @@ chains_one table [] xs ys first second = first ∙ sym second
 chains_one table (start ∷ starts) xs ys (own, rest, one, more, is) (own', rest', one', more', is') =
     is ∙ ap (λ l. l ++ rest) (own_one table start own own' one one') ∙ ap (λ l. own' ++ l) (chains_one table starts rest rest' more more') ∙ sym is'
 
-pub broken_one : (t : Tables) (ids xs ys : List ℕ) → AreBroken t ids xs → AreBroken t ids ys → xs ≡ ys
+pub broken_one : (t : SectorTables) (ids xs ys : List ℕ) → AreBroken t ids xs → AreBroken t ids ys → xs ≡ ys
 broken_one t [] xs ys first second = first ∙ sym second
 broken_one t (id ∷ ids) xs ys (inl (whole, rest)) (inl (also, others)) = broken_one t ids xs ys rest others
 broken_one t (id ∷ ids) xs ys (inl (whole, rest)) (inr (broken, r, is, later)) = absurd (broken whole)

@@ -9,15 +9,15 @@ use Rattle.cfb_sectors.specs.Held.{count_of}
 use Rattle.cfb_sectors.specs.Sectors.{greatest_regular, sectors_in, AreInFile, DifatChain, IsInFile}
 use Rattle.cfb_fat.specs.Tables.{bytes_of, difat_sectors_of, fat_of, fat_sectors_of, sectors_of}
 use Rattle.cfb_fat.proofs.DifatChains.{in_file_below}
-use Rattle.cfb_tree.specs.Names.{Letters}
+use Rattle.cfb_tree.specs.Names.{CaseTable}
 use Rattle.cfb_tree.specs.Tree.{Tree}
 use Rattle.cfb_tree.specs.Entries.{HasSize}
 use Rattle.cfb_tree.proofs.NamesRead.{all_append}
 use Rattle.cfb_directory.specs.Views.{directory_ids, entries_held}
 use Rattle.cfb_mini.specs.Views.{allocator_of, directory_of, mini_fat_ids, mini_fat_of}
 use Rattle.cfb_mini.specs.declared.mini_allocator.MiniAllocator.{MiniAllocator}
-use Rattle.cfb_meaning.specs.Means.{Layout, MeansBy}
-use Rattle.cfb_meaning.specs.Sound.{IsSound}
+use Rattle.cfb_spec.specs.Means.{Layout, BytesMeanTreeBy}
+use Rattle.cfb_spec.specs.Sound.{IsSoundContainer}
 use Rattle.cfb_soundness.specs.Views.{table_sectors, tables_in, LiesSo}
 use Rattle.cfb_soundness.proofs.InMemory.{count_is, entries_are, fat_is, mini_fat_is}
 use Rattle.cfb_soundness.proofs.Judged.{moved, sound_from_judged, tables_same}
@@ -36,9 +36,9 @@ difat_below v bytes (n ∷ ids) start stop (is, there, rest) =
 in_file_all : (v : Version) (bytes ids : List ℕ) → AreInFile v bytes ids → AllByRecursion (λ n. n < sectors_in v (length bytes)) ids
 in_file_all v bytes ids there = all_mapped (IsInFile v bytes) (λ n. n < sectors_in v (length bytes)) (λ n h. in_file_below v bytes n h) ids there
 
-module _ {F : Type 0} {g : Ghosts F} (file : MiniAllocator F g) (file_len : ℕ) (letters : Letters) (l : Layout) (tree : Tree)
+module _ {F : Type 0} {g : Ghosts F} (file : MiniAllocator F g) (file_len : ℕ) (letters : CaseTable) (l : Layout) (tree : Tree)
     (so : LiesSo file l) (len : file_len ≡ length (bytes_of (allocator_of file)))
-    (m : MeansBy l HasSize letters (bytes_of (allocator_of file)) tree) where
+    (m : BytesMeanTreeBy l HasSize letters (bytes_of (allocator_of file)) tree) where
   abbrev bytes : List ℕ
   bytes = bytes_of (allocator_of file)
 
@@ -97,7 +97,7 @@ module _ {F : Type 0} {g : Ghosts F} (file : MiniAllocator F g) (file_len : ℕ)
       → AreBroken (tables_seen file file_len) l.entries [] → (streams minis : List ℕ)
       → ChainsFrom (fat_of (allocator_of file)) (starts_where is_long (entries_held (directory_of file)) l.entries) streams → shared count (table_sectors file ++ streams) ≡ []
       → ChainsFrom (mini_fat_of file) (starts_where is_short (entries_held (directory_of file)) l.entries) minis
-      → shared (min (length (mini_fat_of file)) (greatest_regular + 1)) minis ≡ [] → IsSound letters bytes
+      → shared (min (length (mini_fat_of file)) (greatest_regular + 1)) minis ≡ [] → IsSoundContainer letters bytes
   sound_from_none covers marked unbroken streams minis chains apart mini_chains minis_apart =
       let j = judged_from_none (tables_in file file_len) count (fat_sectors_of (allocator_of file)) (difat_sectors_of (allocator_of file)) (table_sectors file) l.entries
       covers ((allocator_of file).inside so.live) marked (broken_in [] unbroken) tables_below streams minis chains apart mini_chains minis_apart in

@@ -9,9 +9,9 @@ use Rattle.cfb_sectors.specs.Sectors.{sector_start, Chain}
 use Rattle.cfb_tree.specs.Directory.{kind_stream, Entry}
 use Rattle.cfb_tree.proofs.OneContent.{Some_same}
 use Rattle.cfb_mini.specs.Minis.{AreInside}
-use Rattle.cfb_soundness.specs.Uses.{HasMiniSectors, HasSectors, Tables}
+use Rattle.cfb_soundness.specs.Uses.{HasMiniSectors, HasSectors, SectorTables}
 use Rattle.cfb_findings.specs.Avail.{mini_start}
-use Rattle.cfb_findings.specs.Broken.{AreBroken, IsWhole}
+use Rattle.cfb_findings.specs.Broken.{AreBroken, HasAllItUses}
 use Rattle.cfb_findings.specs.Findings.{is_long, is_short}
 use Rattle.cfb_findings.specs.Minis.{minis_there}
 use Rattle.cfb_findings.specs.Noted.{IsNoted}
@@ -24,8 +24,8 @@ long_kind e is = (grind (arith, nat_tests), grind (arith, nat_tests))
 short_kind : (e : Entry) → true ≡ is_short e → (e.kind ≡ kind_stream) × (e.size < mini_cutoff)
 short_kind e is = (grind (arith, nat_tests), grind (arith, nat_tests))
 
-module _ (t : Tables) (id : ℕ) (e : Entry) (found : slice_get t.entries id ≡ Some e) where
-  pub long_whole : true ≡ is_long e → IsHeld t.fat (sector_len t.version) (sector_start t.version) t.file_len e.start e.size ↔ IsWhole t id
+module _ (t : SectorTables) (id : ℕ) (e : Entry) (found : slice_get t.entries id ≡ Some e) where
+  pub long_whole : true ≡ is_long e → IsHeld t.fat (sector_len t.version) (sector_start t.version) t.file_len e.start e.size ↔ HasAllItUses t id
   long_whole is =
       let kind = long_kind e is in (
         (λ held. (
@@ -47,7 +47,7 @@ module _ (t : Tables) (id : ℕ) (e : Entry) (found : slice_get t.entries id ≡
             (whole.0, sectors.chain, sectors.held)),
       )
 
-  pub other_whole : (e.kind ≡ kind_stream → ⊥) → IsWhole t id
+  pub other_whole : (e.kind ≡ kind_stream → ⊥) → HasAllItUses t id
   other_whole unlike = (
     [],
     [],
@@ -86,9 +86,9 @@ inside_chain mini_fat len start (x ∷ ids) (is, regular, next, found, rest) ins
       inside_chain mini_fat len next ids rest (λ k below. inside (suc k) (omega (arith, below))),
     )
 
-module _ (t : Tables) (id : ℕ) (e : Entry) (found : slice_get t.entries id ≡ Some e) where
+module _ (t : SectorTables) (id : ℕ) (e : Entry) (found : slice_get t.entries id ≡ Some e) where
   pub short_whole : true ≡ is_short e
-      → IsHeld (take (minis_there t.mini_fat t.mini_len) t.mini_fat) 64 (mini_start t.version t.mini_stream) t.file_len e.start e.size ↔ IsWhole t id
+      → IsHeld (take (minis_there t.mini_fat t.mini_len) t.mini_fat) 64 (mini_start t.version t.mini_stream) t.file_len e.start e.size ↔ HasAllItUses t id
   short_whole is =
       let kind = short_kind e is in (
         (λ held. (
@@ -117,14 +117,14 @@ module _ (t : Tables) (id : ℕ) (e : Entry) (found : slice_get t.entries id ≡
             (whole.1, inside_chain t.mini_fat t.mini_len e.start whole.1 minis.chain minis.inside, minis.held)),
       )
 
-pub whole_there : (t : Tables) (id : ℕ) → IsWhole t id → id < length t.entries
+pub whole_there : (t : SectorTables) (id : ℕ) → HasAllItUses t id → id < length t.entries
 whole_there t id whole = let h = whole.2 in slice_get_within t.entries id h.entry h.found
 
 pub neither_stream : (e : Entry) → false ≡ is_long e → false ≡ is_short e → e.kind ≡ kind_stream → ⊥
 neither_stream e long short is = grind (arith, nat_tests)
 
 -- what is found one entry on
-pub broken_more : (t : Tables) (xs : List ℕ) (id : ℕ) (old new : List ℕ) → AreBroken t xs old → IsNoted (IsWhole t id) id old new → AreBroken t (xs ++ (id ∷ [])) new
+pub broken_more : (t : SectorTables) (xs : List ℕ) (id : ℕ) (old new : List ℕ) → AreBroken t xs old → IsNoted (HasAllItUses t id) id old new → AreBroken t (xs ++ (id ∷ [])) new
 broken_more t [] id old new none (inl (whole, same)) = inl (whole, same ∙ none)
 broken_more t [] id old new none (inr (broken, more)) = inr (broken, [], more ∙ ap (λ l. l ++ (id ∷ [])) none, refl)
 broken_more t (x ∷ xs) id old new (inl (whole, rest)) noted = inl (whole, broken_more t xs id old new rest noted)

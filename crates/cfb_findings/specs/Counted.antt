@@ -4,8 +4,8 @@ use Rattle.cfb_sectors.specs.Sectors.{end_of_chain}
 use Rattle.cfb_soundness.specs.Marks.{times}
 
 -- each count is how often its part stands in the list, where 2 stands for more
-abbrev pub AreCounts : List ℕ → List ℕ → Type 0
-AreCounts parts counts = (n : ℕ) → n < length counts → slice_index counts n ≡ min 2 (times n parts)
+abbrev pub CountsMatchUses : List ℕ → List ℕ → Type 0
+CountsMatchUses parts counts = (n : ℕ) → n < length counts → slice_index counts n ≡ min 2 (times n parts)
 
 -- each part stands there no more often than the one that it links to, as it is with parts of whole chains
 abbrev pub FollowLinks : List ℕ → List ℕ → Type 0

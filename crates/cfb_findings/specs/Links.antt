@@ -12,9 +12,9 @@ linked zero links n = n
 linked (suc k) links n = linked k links (behind links n)
 
 -- the table has a chain from the start ([MS-CFB] 2.3)
-abbrev pub HasChain : List ℕ → ℕ → Type 0
-HasChain links start = (ids : List ℕ) × Chain links start ids
+abbrev pub HasChainFrom : List ℕ → ℕ → Type 0
+HasChainFrom links start = (ids : List ℕ) × Chain links start ids
 
 -- these numbers stand behind so many links that the chain of each part that has one has ended
 abbrev pub AreEnds : List ℕ → List ℕ → Type 0
-AreEnds links ends = (start : ℕ) → (behind ends start ≡ end_of_chain) ↔ HasChain links start
+AreEnds links ends = (start : ℕ) → (behind ends start ≡ end_of_chain) ↔ HasChainFrom links start

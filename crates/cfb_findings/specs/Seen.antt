@@ -6,11 +6,11 @@ use Rattle.cfb_fat.specs.Tables.{fat_of, version_of}
 use Rattle.cfb_directory.specs.Views.{entries_held}
 use Rattle.cfb_mini.specs.Views.{allocator_of, directory_of, mini_fat_of, mini_stream_ids}
 use Rattle.cfb_mini.specs.declared.mini_allocator.MiniAllocator.{MiniAllocator}
-use Rattle.cfb_soundness.specs.Uses.{Tables}
+use Rattle.cfb_soundness.specs.Uses.{SectorTables}
 
 module _ {F : Type 0} {g : Ghosts F} where
   -- the tables in memory, of a file of so many bytes: the mini stream has the bytes of its sectors ([MS-CFB] 2.6.2)
-  abbrev pub tables_seen : MiniAllocator F g → ℕ → Tables
+  abbrev pub tables_seen : MiniAllocator F g → ℕ → SectorTables
   tables_seen it file_len = record {
     version = version_of (allocator_of it);
     fat = fat_of (allocator_of it);

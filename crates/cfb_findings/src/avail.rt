@@ -37,7 +37,7 @@ pub(crate) fn sectors_bytes(
 ) -> Result<Vec<u64>, Error>
     ensures bytes { IfOk result (λ bytes. bytes.items
         ≡ map (sector_bytes version file_len) (range_with_len 0 count)) }
-    ensures error { IfErr result (λ e. e ≡ Memory) }
+    ensures errors { IfErr result (λ e. e ≡ Memory) }
 {
     let len = version.sector_len() as u64;
     let mut bytes = Vec::new(alloc);
@@ -57,7 +57,7 @@ pub(crate) fn minis_bytes(
 ) -> Result<Vec<u64>, Error>
     ensures bytes { IfOk result (λ bytes. bytes.items
         ≡ map (mini_bytes version stream.now file_len) (range_with_len 0 count)) }
-    ensures error { IfErr result (λ e. e ≡ Memory) }
+    ensures errors { IfErr result (λ e. e ≡ Memory) }
 {
     let mut bytes = Vec::new(alloc);
     for id in 0..count {

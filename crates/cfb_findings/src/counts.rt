@@ -1,5 +1,5 @@
 //! How often the parts of a file are used.
-ghost use Rattle.cfb_findings.specs.Counted.{left_to_count, AreCounts, FollowLinks};
+ghost use Rattle.cfb_findings.specs.Counted.{left_to_count, CountsMatchUses, FollowLinks};
 ghost use Rattle.cfb_findings.specs.Findings.{is_shared, shared, ChainOrNone, ChainsFrom};
 ghost use Rattle.cfb_findings.specs.Links.{AreEnds};
 ghost use Rattle.cfb_medium.specs.declared.error.Error.TheVariants.{Memory};
@@ -22,9 +22,9 @@ impl Counts {
 
     // No use of so many parts is counted.
     pub(crate) fn new(alloc: Global, count: usize) -> Result<Counts, Error>
-        ensures none { IfOk result (λ it. AreCounts [] (counts_of it)) }
+        ensures none { IfOk result (λ it. CountsMatchUses [] (counts_of it)) }
         ensures size { IfOk result (λ it. length (counts_of it) ≡ count) }
-        ensures error { IfErr result (λ e. e ≡ Memory) }
+        ensures errors { IfErr result (λ e. e ≡ Memory) }
     {
         let items = vec![in alloc; 0; count]?;
         Ok(Counts { items })
@@ -32,8 +32,8 @@ impl Counts {
 
     // Counts a use of a part; `false` where there is no count for it, or it stands at 2.
     fn count(&mut self, part: u32) -> bool
-        ensures counted { (parts : List ℕ) → AreCounts parts (counts_of self.old)
-            → AreCounts (part ∷ parts) (counts_of self.new) }
+        ensures counted { (parts : List ℕ) → CountsMatchUses parts (counts_of self.old)
+            → CountsMatchUses (part ∷ parts) (counts_of self.new) }
         ensures size { length (counts_of self.new) ≡ length (counts_of self.old) }
         ensures less { IsTrue result
             → left_to_count (counts_of self.new) < left_to_count (counts_of self.old) }
@@ -53,8 +53,8 @@ impl Counts {
 
     // Counts a use of each of these parts.
     pub(crate) fn count_all(&mut self, parts: &[u32])
-        ensures counted { (before : List ℕ) → AreCounts before (counts_of self.old)
-            → AreCounts (parts.now ++ before) (counts_of self.new) }
+        ensures counted { (before : List ℕ) → CountsMatchUses before (counts_of self.old)
+            → CountsMatchUses (parts.now ++ before) (counts_of self.new) }
         ensures size { length (counts_of self.new) ≡ length (counts_of self.old) }
     {
         for part in parts {
@@ -66,8 +66,8 @@ impl Counts {
     fn count_chain(&mut self, links: &[u32], start: u32)
         requires { length links.now ≤ length (counts_of self.old) }
         ensures counted { (ids before : List ℕ) → Chain links.now start ids
-            → FollowLinks links.now before → AreCounts before (counts_of self.old)
-            → AreCounts (ids ++ before) (counts_of self.new) }
+            → FollowLinks links.now before → CountsMatchUses before (counts_of self.old)
+            → CountsMatchUses (ids ++ before) (counts_of self.new) }
         ensures size { length (counts_of self.new) ≡ length (counts_of self.old) }
     {
         let mut at = start;
@@ -83,9 +83,9 @@ impl Counts {
     fn count_start(&mut self, links: &[u32], ends: &[u32], start: u32)
         requires { length links.now ≤ length (counts_of self.old) }
         ensures counted { (before : List ℕ) → AreEnds links.now ends.now
-            → FollowLinks links.now before → AreCounts before (counts_of self.old)
+            → FollowLinks links.now before → CountsMatchUses before (counts_of self.old)
             → (own : List ℕ) × ChainOrNone links.now start own
-            × AreCounts (own ++ before) (counts_of self.new) }
+            × CountsMatchUses (own ++ before) (counts_of self.new) }
         ensures size { length (counts_of self.new) ≡ length (counts_of self.old) }
     {
         if !has_chain(ends, start) {
@@ -97,9 +97,9 @@ impl Counts {
     // Counts the parts of the chains from these starts in a table with these ends.
     fn count_starts(&mut self, links: &[u32], ends: &[u32], starts: &[u32])
         requires { length links.now ≤ length (counts_of self.old) }
-        ensures counted { AreEnds links.now ends.now → AreCounts [] (counts_of self.old)
+        ensures counted { AreEnds links.now ends.now → CountsMatchUses [] (counts_of self.old)
             → (all : List ℕ) × ChainsFrom links.now starts.now all
-            × AreCounts all (counts_of self.new) }
+            × CountsMatchUses all (counts_of self.new) }
         ensures size { length (counts_of self.new) ≡ length (counts_of self.old) }
     {
         for start in starts {
@@ -116,9 +116,9 @@ impl Counts {
     ) -> Result<Counts, Error>
         requires { length links.now ≤ count }
         ensures counted { IfOk result (λ it. (all : List ℕ) × ChainsFrom links.now starts.now all
-            × AreCounts all (counts_of it)) }
+            × CountsMatchUses all (counts_of it)) }
         ensures size { IfOk result (λ it. length (counts_of it) ≡ count) }
-        ensures error { IfErr result (λ e. e ≡ Memory) }
+        ensures errors { IfErr result (λ e. e ≡ Memory) }
     {
         let ends = ends_of(alloc, links)?;
         let mut counts = Counts::new(alloc, count)?;
@@ -129,7 +129,7 @@ impl Counts {
     // Whether a part serves two uses or more.
     fn is_shared(&self, part: u32) -> bool
         requires { part < length (counts_of self.now) }
-        ensures { (uses : List ℕ) → AreCounts uses (counts_of self.now)
+        ensures { (uses : List ℕ) → CountsMatchUses uses (counts_of self.now)
             → result ≡ is_shared uses part }
     {
         if self.items[part as usize] < 2 {
@@ -141,10 +141,10 @@ impl Counts {
     // Adds a part that serves two uses or more.
     fn note(&self, found: &mut Vec<u32>, part: u32) -> Result<(), Error>
         requires { part < length (counts_of self.now) }
-        ensures found { (uses : List ℕ) → AreCounts uses (counts_of self.now)
+        ensures found { (uses : List ℕ) → CountsMatchUses uses (counts_of self.now)
             → OnOk result (found.new.items
             ≡ found.old.items ++ (if is_shared uses part then part ∷ [] else [])) }
-        ensures error { IfErr result (λ e. e ≡ Memory) }
+        ensures errors { IfErr result (λ e. e ≡ Memory) }
     {
         if !self.is_shared(part) {
             return Ok(());
@@ -156,9 +156,9 @@ impl Counts {
     // The parts that serve two uses or more, of the first so many.
     pub(crate) fn shared(&self, alloc: Global, count: u32) -> Result<Vec<u32>, Error>
         requires { count ≤ length (counts_of self.now) }
-        ensures found { (uses : List ℕ) → AreCounts uses (counts_of self.now)
+        ensures found { (uses : List ℕ) → CountsMatchUses uses (counts_of self.now)
             → IfOk result (λ found. found.items ≡ shared count uses) }
-        ensures error { IfErr result (λ e. e ≡ Memory) }
+        ensures errors { IfErr result (λ e. e ≡ Memory) }
     {
         let mut found = Vec::new(alloc);
         for part in 0..count {

@@ -16,7 +16,7 @@ pub(crate) struct Held {
 }
 
 impl Held {
-    ghost use Rattle.cfb_findings.specs.Held.{Tells};
+    ghost use Rattle.cfb_findings.specs.Held.{TableHasChains};
 
     // What is told of a table's chains, where so many bytes of each part stand in the file.
     pub(crate) fn of_table(
@@ -32,8 +32,8 @@ impl Held {
         requires most { (n : ℕ) → of_part avail.now n ≤ piece }
         ensures tells { (place : ℕ → ℕ) (file_len : ℕ) → ((n : ℕ) → n < length links.now
             → slice_index avail.now n ≡ min piece (file_len - place n))
-            → IfOk result (λ it. Tells links.now piece place file_len it) }
-        ensures error { IfErr result (λ e. e ≡ Memory) }
+            → IfOk result (λ it. TableHasChains links.now piece place file_len it) }
+        ensures errors { IfErr result (λ e. e ≡ Memory) }
     {
         let ends = ends_of(alloc, links)?;
         let rooms = rooms_of(alloc, links, avail, piece)?;
@@ -43,7 +43,7 @@ impl Held {
     // Whether a stream of so many bytes that starts there has a chain, and its bytes stand in the file.
     pub(crate) fn holds(&self, start: u32, size: u64) -> bool
         ensures { (links : List ℕ) (piece : ℕ) (place : ℕ → ℕ) (file_len : ℕ)
-            → Tells links piece place file_len self.now
+            → TableHasChains links piece place file_len self.now
             → IsTrue result ↔ IsHeld links piece place file_len start size }
     {
         if !has_chain(&self.ends, start) {

@@ -5,16 +5,16 @@ ghost use Rattle.cfb_findings.specs.Broken.{AreBroken};
 ghost use Rattle.cfb_findings.specs.Findings.{is_long, is_short, starts_where, unmarked, HasTree};
 ghost use Rattle.cfb_findings.specs.Nothing.{HasNoFindings, TellsNone, TellsUnshared};
 ghost use Rattle.cfb_findings.specs.Seen.{tables_seen};
-ghost use Rattle.cfb_meaning.specs.Means.{Layout, MeansBy};
-ghost use Rattle.cfb_meaning.specs.Sound.{IsSound};
+ghost use Rattle.cfb_spec.specs.Means.{Layout, BytesMeanTreeBy};
+ghost use Rattle.cfb_spec.specs.Sound.{IsSoundContainer};
 ghost use Rattle.cfb_medium.specs.declared.error.Error.TheVariants.{Failed, Memory};
 ghost use Rattle.cfb_mini.specs.Views.{allocator_of, directory_of, mini_fat_of};
 ghost use Rattle.cfb_sectors.specs.Held.{count_of};
 ghost use Rattle.cfb_sectors.specs.Sectors.{greatest_regular};
-ghost use Rattle.cfb_soundness.specs.Uses.{IsWant};
+ghost use Rattle.cfb_soundness.specs.Uses.{IsOutOfMemoryOrFailed};
 ghost use Rattle.cfb_soundness.specs.Views.{table_sectors, LiesSo};
 ghost use Rattle.cfb_tree.specs.Entries.{HasSize};
-ghost use Rattle.cfb_tree.specs.Names.{Letters};
+ghost use Rattle.cfb_tree.specs.Names.{CaseTable};
 ghost use Rattle.cfb_tree.specs.Tree.{Tree};
 ghost use Rattle.std.specs.Prelude.{[], length, min, true, IfErr, IfOk, IsErrOf, IsTrue, List, ℕ, ◌++◌, ◌+◌, ◌≡◌, ◌≤◌, ◌↔◌};
 
@@ -36,8 +36,9 @@ fn is_none(found: &[u32]) -> bool
 fn is_covered<F: ReadMedium>(file: &MiniAllocator<F>) -> Result<bool, Error>
     ensures covered { IfOk result (λ ok. IsTrue ok ↔ (count_of (sectors_of (allocator_of file.now))
         ≤ length (fat_of (allocator_of file.now)))) }
-    ensures failed { has_failed_here (allocator_of file.now) ≡ true → IsErrOf result Failed }
-    ensures error { IfErr result (IsWant (has_failed_here (allocator_of file.now))) }
+    ensures when_failed { has_failed_here (allocator_of file.now) ≡ true → IsErrOf result Failed }
+    ensures errors { IfErr result
+        (IsOutOfMemoryOrFailed (has_failed_here (allocator_of file.now))) }
 {
     match uncovered_sectors(file) {
         Ok(Some(_)) => Ok(false),
@@ -51,7 +52,8 @@ fn are_marked<F: ReadMedium>(alloc: Global, file: &MiniAllocator<F>) -> Result<b
     ensures marked { IfOk result (λ ok. IsTrue ok ↔ (unmarked (fat_of (allocator_of file.now))
         (fat_sectors_of (allocator_of file.now) ++ difat_sectors_of (allocator_of file.now))
         ≡ [])) }
-    ensures error { IfErr result (IsWant (has_failed_here (allocator_of file.now))) }
+    ensures errors { IfErr result
+        (IsOutOfMemoryOrFailed (has_failed_here (allocator_of file.now))) }
 {
     let found = unmarked_tables(alloc, file)?;
     Ok(is_none(&found))
@@ -65,7 +67,8 @@ fn are_whole<F: ReadMedium>(
 ) -> Result<bool, Error>
     ensures whole { (ids : List ℕ) → HasTree (entries_held (directory_of file.now)) ids
         → IfOk result (λ ok. TellsNone (AreBroken (tables_seen file.now file_len) ids) ok) }
-    ensures error { IfErr result (IsWant (has_failed_here (allocator_of file.now))) }
+    ensures errors { IfErr result
+        (IsOutOfMemoryOrFailed (has_failed_here (allocator_of file.now))) }
 {
     let found = broken_streams(alloc, file, file_len)?;
     Ok(is_none(&found))
@@ -77,7 +80,8 @@ fn are_apart<F: ReadMedium>(alloc: Global, file: &MiniAllocator<F>) -> Result<bo
         → IfOk result (TellsUnshared (fat_of (allocator_of file.now))
         (starts_where is_long (entries_held (directory_of file.now)) ids)
         (count_of (sectors_of (allocator_of file.now))) (table_sectors file.now)) }
-    ensures error { IfErr result (IsWant (has_failed_here (allocator_of file.now))) }
+    ensures errors { IfErr result
+        (IsOutOfMemoryOrFailed (has_failed_here (allocator_of file.now))) }
 {
     let found = shared_sectors(alloc, file)?;
     Ok(is_none(&found))
@@ -89,7 +93,8 @@ fn are_minis_apart<F: ReadMedium>(alloc: Global, file: &MiniAllocator<F>) -> Res
         → IfOk result (TellsUnshared (mini_fat_of file.now)
         (starts_where is_short (entries_held (directory_of file.now)) ids)
         (min (length (mini_fat_of file.now)) (greatest_regular + 1)) []) }
-    ensures error { IfErr result (IsWant (has_failed_here (allocator_of file.now))) }
+    ensures errors { IfErr result
+        (IsOutOfMemoryOrFailed (has_failed_here (allocator_of file.now))) }
 {
     let found = shared_mini_sectors(alloc, file)?;
     Ok(is_none(&found))
@@ -105,12 +110,13 @@ pub fn is_without_findings<F: ReadMedium>(
 ) -> Result<bool, Error>
     ensures none { (ids : List ℕ) → HasTree (entries_held (directory_of file.now)) ids
         → IfOk result (λ none. IsTrue none ↔ HasNoFindings file.now file_len ids) }
-    ensures sound { IfOk result (λ none. (letters : Letters) (l : Layout) (tree : Tree)
+    ensures sound { IfOk result (λ none. (letters : CaseTable) (l : Layout) (tree : Tree)
         → LiesSo file.now l → file_len ≡ length (bytes_of (allocator_of file.now))
-        → MeansBy l HasSize letters (bytes_of (allocator_of file.now)) tree
-        → IsTrue none ↔ IsSound letters (bytes_of (allocator_of file.now))) }
-    ensures failed { has_failed_here (allocator_of file.now) ≡ true → IsErrOf result Failed }
-    ensures error { IfErr result (IsWant (has_failed_here (allocator_of file.now))) }
+        → BytesMeanTreeBy l HasSize letters (bytes_of (allocator_of file.now)) tree
+        → IsTrue none ↔ IsSoundContainer letters (bytes_of (allocator_of file.now))) }
+    ensures when_failed { has_failed_here (allocator_of file.now) ≡ true → IsErrOf result Failed }
+    ensures errors { IfErr result
+        (IsOutOfMemoryOrFailed (has_failed_here (allocator_of file.now))) }
 {
     let covered = is_covered(file)?;
     if !covered {

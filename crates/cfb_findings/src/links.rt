@@ -1,5 +1,5 @@
 //! Where the links of a table lead: which of its parts a chain begins at ([MS-CFB] 2.3).
-ghost use Rattle.cfb_findings.specs.Links.{behind, AreEnds, HasChain};
+ghost use Rattle.cfb_findings.specs.Links.{behind, AreEnds, HasChainFrom};
 ghost use Rattle.cfb_medium.specs.declared.error.Error.TheVariants.{Memory};
 ghost use Rattle.std.specs.Prelude.{map, IfErr, IfOk, IsTrue, List, ℕ, ◌≡◌, ◌↔◌};
 
@@ -23,7 +23,7 @@ pub(crate) fn behind(links: &[u32], part: u32) -> u32
 // The numbers behind twice as many links.
 pub(crate) fn double_links(alloc: Global, links: &[u32]) -> Result<Vec<u32>, Error>
     ensures twice { IfOk result (λ more. more.items ≡ map (behind links.now) links.now) }
-    ensures error { IfErr result (λ e. e ≡ Memory) }
+    ensures errors { IfErr result (λ e. e ≡ Memory) }
 {
     let mut more = Vec::new(alloc);
     for next in links {
@@ -35,7 +35,7 @@ pub(crate) fn double_links(alloc: Global, links: &[u32]) -> Result<Vec<u32>, Err
 // The numbers behind so many links that each chain has ended. It takes as many turns as the length of the table has bits.
 pub(crate) fn ends_of(alloc: Global, links: &[u32]) -> Result<Vec<u32>, Error>
     ensures ends { IfOk result (λ ends. AreEnds links.now ends.items) }
-    ensures error { IfErr result (λ e. e ≡ Memory) }
+    ensures errors { IfErr result (λ e. e ≡ Memory) }
 {
     let mut ends = Vec::from_slice(alloc, links)?;
     let mut reach: usize = 1;
@@ -48,7 +48,7 @@ pub(crate) fn ends_of(alloc: Global, links: &[u32]) -> Result<Vec<u32>, Error>
 
 // Whether the table with these ends has a chain from a start.
 pub(crate) fn has_chain(ends: &[u32], start: u32) -> bool
-    ensures { (links : List ℕ) → AreEnds links ends.now → IsTrue result ↔ HasChain links start }
+    ensures { (links : List ℕ) → AreEnds links ends.now → IsTrue result ↔ HasChainFrom links start }
 {
     behind(ends, start) == END_OF_CHAIN
 }

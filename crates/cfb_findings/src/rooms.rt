@@ -43,7 +43,7 @@ fn more_rooms(alloc: Global, rooms: &[u64], jumps: &[u32], full: u64) -> Result<
     requires small { full < 2 ^ 60 }
     ensures more { IfOk result (λ more. more.items
         ≡ map (more_room rooms.now jumps.now full) (range_with_len 0 (length rooms.now))) }
-    ensures error { IfErr result (λ e. e ≡ Memory) }
+    ensures errors { IfErr result (λ e. e ≡ Memory) }
 {
     let mut more = Vec::new(alloc);
     for part in 0..rooms.len() as u32 {
@@ -68,7 +68,7 @@ pub(crate) fn rooms_of(
     ensures rooms { (place : ℕ → ℕ) (file_len : ℕ) → ((n : ℕ) → n < length links.now
         → slice_index avail.now n ≡ min piece (file_len - place n))
         → IfOk result (λ rooms. AreRooms links.now piece place file_len rooms.items) }
-    ensures error { IfErr result (λ e. e ≡ Memory) }
+    ensures errors { IfErr result (λ e. e ≡ Memory) }
 {
     let mut jumps = Vec::from_slice(alloc, links)?;
     let mut rooms = Vec::from_slice(alloc, avail)?;

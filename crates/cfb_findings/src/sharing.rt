@@ -1,14 +1,14 @@
 //! Sectors and mini sectors that serve two uses or more ([MS-CFB] 2).
 ghost use Rattle.cfb_directory.specs.Views.{entries_held};
 ghost use Rattle.cfb_fat.specs.Tables.{fat_of, has_failed_here, sectors_of};
-ghost use Rattle.cfb_findings.specs.Counted.{AreCounts};
+ghost use Rattle.cfb_findings.specs.Counted.{CountsMatchUses};
 ghost use Rattle.cfb_findings.specs.Findings.{is_long, is_short, shared, starts_where, ChainsFrom, HasTree};
 ghost use Rattle.cfb_findings.specs.Views.{counts_of};
 ghost use Rattle.cfb_medium.specs.declared.error.Error.TheVariants.{Failed, Memory};
 ghost use Rattle.cfb_mini.specs.Views.{allocator_of, directory_of, mini_fat_of};
 ghost use Rattle.cfb_sectors.specs.Held.{count_of};
 ghost use Rattle.cfb_sectors.specs.Sectors.{greatest_regular};
-ghost use Rattle.cfb_soundness.specs.Uses.{IsWant};
+ghost use Rattle.cfb_soundness.specs.Uses.{IsOutOfMemoryOrFailed};
 ghost use Rattle.cfb_soundness.specs.Views.{table_sectors};
 ghost use Rattle.std.specs.Prelude.{false, length, min, slice_get, true, IfErr, IfOk, IsErrOf, List, ℕ, ◌++◌, ◌+◌, ◌≡◌};
 
@@ -39,7 +39,7 @@ pub(crate) fn fat_entries<F: ReadMedium>(
 ) -> Result<Vec<u32>, Error>
     requires { has_failed_here allocator.now ≡ false }
     ensures entries { IfOk result (λ entries. entries.items ≡ fat_of allocator.now) }
-    ensures error { IfErr result (λ e. e ≡ Memory) }
+    ensures errors { IfErr result (λ e. e ≡ Memory) }
 {
     let mut entries = Vec::new(alloc);
     for sector_id in 0..allocator.num_sectors() {
@@ -53,8 +53,8 @@ pub(crate) fn fat_entries<F: ReadMedium>(
 
 // Counts the sectors of FAT, DIFAT, directory, mini FAT and mini stream.
 fn count_tables<F: ReadMedium>(file: &MiniAllocator<F>, counts: &mut Counts)
-    ensures counted { (before : List ℕ) → AreCounts before (counts_of counts.old)
-        → AreCounts (table_sectors file.now ++ before) (counts_of counts.new) }
+    ensures counted { (before : List ℕ) → CountsMatchUses before (counts_of counts.old)
+        → CountsMatchUses (table_sectors file.now ++ before) (counts_of counts.new) }
     ensures size { length (counts_of counts.new) ≡ length (counts_of counts.old) }
 {
     let allocator = file.directory().allocator();
@@ -79,8 +79,9 @@ pub fn shared_sectors<F: ReadMedium>(
         (starts_where is_long (entries_held (directory_of file.now)) ids) streams
         × (found.items ≡ shared (count_of (sectors_of (allocator_of file.now)))
         (table_sectors file.now ++ streams))) }
-    ensures failed { has_failed_here (allocator_of file.now) ≡ true → IsErrOf result Failed }
-    ensures error { IfErr result (IsWant (has_failed_here (allocator_of file.now))) }
+    ensures when_failed { has_failed_here (allocator_of file.now) ≡ true → IsErrOf result Failed }
+    ensures errors { IfErr result
+        (IsOutOfMemoryOrFailed (has_failed_here (allocator_of file.now))) }
 {
     let allocator = file.directory().allocator();
     if allocator.is_failed() {
@@ -107,8 +108,9 @@ pub fn shared_mini_sectors<F: ReadMedium>(
         (starts_where is_short (entries_held (directory_of file.now)) ids) streams
         × (found.items ≡ shared (min (length (mini_fat_of file.now)) (greatest_regular + 1))
         streams)) }
-    ensures failed { has_failed_here (allocator_of file.now) ≡ true → IsErrOf result Failed }
-    ensures error { IfErr result (IsWant (has_failed_here (allocator_of file.now))) }
+    ensures when_failed { has_failed_here (allocator_of file.now) ≡ true → IsErrOf result Failed }
+    ensures errors { IfErr result
+        (IsOutOfMemoryOrFailed (has_failed_here (allocator_of file.now))) }
 {
     if file.directory().allocator().is_failed() {
         return Err(Error::Failed);

@@ -82,7 +82,7 @@ fn long_starts_of<F: ReadMedium>(
 ) -> Result<Vec<u32>, Error>
     ensures starts { IfOk result (λ starts. starts.items
         ≡ starts_where is_long (entries_held directory.now) ids.now) }
-    ensures error { IfErr result (λ e. e ≡ Memory) }
+    ensures errors { IfErr result (λ e. e ≡ Memory) }
 {
     let mut starts = Vec::new(alloc);
     for id in ids {
@@ -99,7 +99,7 @@ fn short_starts_of<F: ReadMedium>(
 ) -> Result<Vec<u32>, Error>
     ensures starts { IfOk result (λ starts. starts.items
         ≡ starts_where is_short (entries_held directory.now) ids.now) }
-    ensures error { IfErr result (λ e. e ≡ Memory) }
+    ensures errors { IfErr result (λ e. e ≡ Memory) }
 {
     let mut starts = Vec::new(alloc);
     for id in ids {
@@ -112,7 +112,7 @@ fn short_starts_of<F: ReadMedium>(
 fn add(starts: &mut Vec<u32>, start: Option<u32>) -> Result<(), Error>
     ensures added { OnOk result (starts.new.items
         ≡ starts.old.items ++ option_to_list start) }
-    ensures error { IfErr result (λ e. e ≡ Memory) }
+    ensures errors { IfErr result (λ e. e ≡ Memory) }
 {
     match start {
         Some(start) => {
@@ -131,7 +131,7 @@ pub(crate) fn long_starts<F: ReadMedium>(
     ensures starts { (ids : List ℕ) → HasTree (entries_held directory.now) ids
         → IfOk result (λ starts. starts.items
         ≡ starts_where is_long (entries_held directory.now) ids) }
-    ensures error { IfErr result (λ e. e ≡ Memory) }
+    ensures errors { IfErr result (λ e. e ≡ Memory) }
 {
     let ids = tree_entries(alloc, directory)?;
     long_starts_of(alloc, directory, &ids)
@@ -145,7 +145,7 @@ pub(crate) fn short_starts<F: ReadMedium>(
     ensures starts { (ids : List ℕ) → HasTree (entries_held directory.now) ids
         → IfOk result (λ starts. starts.items
         ≡ starts_where is_short (entries_held directory.now) ids) }
-    ensures error { IfErr result (λ e. e ≡ Memory) }
+    ensures errors { IfErr result (λ e. e ≡ Memory) }
 {
     let ids = tree_entries(alloc, directory)?;
     short_starts_of(alloc, directory, &ids)

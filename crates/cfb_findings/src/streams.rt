@@ -3,16 +3,16 @@ ghost use Rattle.cfb_directory.specs.Views.{entries_held};
 ghost use Rattle.cfb_fat.specs.Tables.{fat_of, has_failed_here, version_of};
 ghost use Rattle.cfb_findings.specs.Seen.{tables_seen};
 ghost use Rattle.cfb_findings.specs.Avail.{mini_start};
-ghost use Rattle.cfb_findings.specs.Broken.{AreBroken, IsWhole};
+ghost use Rattle.cfb_findings.specs.Broken.{AreBroken, HasAllItUses};
 ghost use Rattle.cfb_findings.specs.Findings.{HasTree};
-ghost use Rattle.cfb_findings.specs.Held.{Tells, TellsTables};
+ghost use Rattle.cfb_findings.specs.Held.{TableHasChains, TellsTables};
 ghost use Rattle.cfb_findings.specs.Minis.{minis_there};
 ghost use Rattle.cfb_findings.specs.Noted.{IsNoted};
 ghost use Rattle.cfb_medium.specs.Versions.{sector_len};
 ghost use Rattle.cfb_medium.specs.declared.error.Error.TheVariants.{Failed, Memory};
 ghost use Rattle.cfb_mini.specs.Views.{allocator_of, directory_of, mini_fat_of, mini_stream_ids};
 ghost use Rattle.cfb_sectors.specs.Sectors.{sector_start};
-ghost use Rattle.cfb_soundness.specs.Uses.{IsWant};
+ghost use Rattle.cfb_soundness.specs.Uses.{IsOutOfMemoryOrFailed};
 ghost use Rattle.std.specs.Prelude.{false, length, take, true, IfErr, IfOk, IsErrOf, IsTrue, List, OnOk, ℕ, ◌*◌, ◌++◌, ◌∷◌, ◌≡◌, ◌↔◌};
 
 use crate::avail::{minis_bytes, sectors_bytes};
@@ -32,10 +32,10 @@ fn held_in_fat<F: ReadMedium>(
     file_len: u64,
 ) -> Result<Held, Error>
     requires { has_failed_here (allocator_of file.now) ≡ false }
-    ensures tells { IfOk result (Tells (fat_of (allocator_of file.now))
+    ensures tells { IfOk result (TableHasChains (fat_of (allocator_of file.now))
         (sector_len (version_of (allocator_of file.now)))
         (sector_start (version_of (allocator_of file.now))) file_len) }
-    ensures error { IfErr result (λ e. e ≡ Memory) }
+    ensures errors { IfErr result (λ e. e ≡ Memory) }
 {
     let allocator = file.directory().allocator();
     let version = file.version();
@@ -60,11 +60,11 @@ fn held_in_mini_fat<F: ReadMedium>(
     file: &MiniAllocator<F>,
     file_len: u64,
 ) -> Result<Held, Error>
-    ensures tells { IfOk result (Tells (take (minis_there (mini_fat_of file.now)
+    ensures tells { IfOk result (TableHasChains (take (minis_there (mini_fat_of file.now)
         (length (mini_stream_ids file.now) * sector_len (version_of (allocator_of file.now))))
         (mini_fat_of file.now)) 64 (mini_start (version_of (allocator_of file.now))
         (mini_stream_ids file.now)) file_len) }
-    ensures error { IfErr result (λ e. e ≡ Memory) }
+    ensures errors { IfErr result (λ e. e ≡ Memory) }
 {
     let count = minis_there(file);
     let links = &file.mini_fat()[..count as usize];
@@ -76,7 +76,7 @@ fn held_in_mini_fat<F: ReadMedium>(
 // Whether the directory has the entry, and the entry what it uses.
 fn is_whole<F: ReadMedium>(file: &MiniAllocator<F>, fat: &Held, minis: &Held, id: u32) -> bool
     ensures { (file_len : ℕ) → TellsTables (tables_seen file.now file_len) fat.now minis.now
-        → IsTrue result ↔ IsWhole (tables_seen file.now file_len) id }
+        → IsTrue result ↔ HasAllItUses (tables_seen file.now file_len) id }
 {
     if !file.directory().has_dir_entry(id) {
         return false;
@@ -100,9 +100,9 @@ fn note<F: ReadMedium>(
     id: u32,
 ) -> Result<(), Error>
     ensures noted { (file_len : ℕ) → TellsTables (tables_seen file.now file_len) fat.now minis.now
-        → OnOk result (IsNoted (IsWhole (tables_seen file.now file_len) id) id
+        → OnOk result (IsNoted (HasAllItUses (tables_seen file.now file_len) id) id
         found.old.items found.new.items) }
-    ensures error { IfErr result (λ e. e ≡ Memory) }
+    ensures errors { IfErr result (λ e. e ≡ Memory) }
 {
     if is_whole(file, fat, minis, id) {
         return Ok(());
@@ -121,7 +121,7 @@ fn broken_of<F: ReadMedium>(
 ) -> Result<Vec<u32>, Error>
     ensures found { (file_len : ℕ) → TellsTables (tables_seen file.now file_len) fat.now minis.now
         → IfOk result (λ found. AreBroken (tables_seen file.now file_len) ids.now found.items) }
-    ensures error { IfErr result (λ e. e ≡ Memory) }
+    ensures errors { IfErr result (λ e. e ≡ Memory) }
 {
     let mut found = Vec::new(alloc);
     for id in ids {
@@ -142,8 +142,9 @@ pub fn broken_streams<F: ReadMedium>(
 ) -> Result<Vec<u32>, Error>
     ensures found { (ids : List ℕ) → HasTree (entries_held (directory_of file.now)) ids
         → IfOk result (λ found. AreBroken (tables_seen file.now file_len) ids found.items) }
-    ensures failed { has_failed_here (allocator_of file.now) ≡ true → IsErrOf result Failed }
-    ensures error { IfErr result (IsWant (has_failed_here (allocator_of file.now))) }
+    ensures when_failed { has_failed_here (allocator_of file.now) ≡ true → IsErrOf result Failed }
+    ensures errors { IfErr result
+        (IsOutOfMemoryOrFailed (has_failed_here (allocator_of file.now))) }
 {
     if file.directory().allocator().is_failed() {
         return Err(Error::Failed);

@@ -4,7 +4,7 @@ ghost use Rattle.cfb_findings.specs.Findings.{is_unmarked, unmarked};
 ghost use Rattle.cfb_medium.specs.declared.error.Error.TheVariants.{Failed, Memory};
 ghost use Rattle.cfb_mini.specs.Views.{allocator_of};
 ghost use Rattle.cfb_sectors.specs.Held.{count_of};
-ghost use Rattle.cfb_soundness.specs.Uses.{IsWant};
+ghost use Rattle.cfb_soundness.specs.Uses.{IsOutOfMemoryOrFailed};
 ghost use Rattle.std.specs.Prelude.{[], true, false, length, IfErr, IfOk, IsErrOf, IsTrue, MatchOption, OnOk, ◌++◌, ◌∷◌, ◌<◌, ◌≡◌, ◌≤◌, ◌↔◌};
 
 use cfb_fat::Allocator;
@@ -20,8 +20,8 @@ pub fn uncovered_sectors<F: ReadMedium>(file: &MiniAllocator<F>) -> Result<Optio
         (count_of (sectors_of (allocator_of file.now)) ≤ length (fat_of (allocator_of file.now)))
         (λ n. (n ≡ length (fat_of (allocator_of file.now)))
         × (n < count_of (sectors_of (allocator_of file.now))))) }
-    ensures failed { has_failed_here (allocator_of file.now) ≡ true → IsErrOf result Failed }
-    ensures error { IfErr result (λ e. (e ≡ Failed)
+    ensures when_failed { has_failed_here (allocator_of file.now) ≡ true → IsErrOf result Failed }
+    ensures errors { IfErr result (λ e. (e ≡ Failed)
         × (has_failed_here (allocator_of file.now) ≡ true)) }
 {
     let allocator = file.directory().allocator();
@@ -63,8 +63,9 @@ pub fn unmarked_tables<F: ReadMedium>(
 ) -> Result<Vec<u32>, Error>
     ensures found { IfOk result (λ found. found.items ≡ unmarked (fat_of (allocator_of file.now))
         (fat_sectors_of (allocator_of file.now) ++ difat_sectors_of (allocator_of file.now))) }
-    ensures failed { has_failed_here (allocator_of file.now) ≡ true → IsErrOf result Failed }
-    ensures error { IfErr result (IsWant (has_failed_here (allocator_of file.now))) }
+    ensures when_failed { has_failed_here (allocator_of file.now) ≡ true → IsErrOf result Failed }
+    ensures errors { IfErr result
+        (IsOutOfMemoryOrFailed (has_failed_here (allocator_of file.now))) }
 {
     let allocator = file.directory().allocator();
     if allocator.is_failed() {
@@ -85,7 +86,7 @@ fn note_unmarked<F: ReadMedium>(
     requires { has_failed_here allocator.now ≡ false }
     ensures found { OnOk result (found.new.items
         ≡ found.old.items ++ unmarked (fat_of allocator.now) sector_ids.now) }
-    ensures error { IfErr result (λ e. e ≡ Memory) }
+    ensures errors { IfErr result (λ e. e ≡ Memory) }
 {
     for sector_id in sector_ids {
         note(found, allocator, *sector_id)?;

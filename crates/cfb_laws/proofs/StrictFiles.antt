@@ -4,30 +4,30 @@ use Rattle.std.specs.Prelude.{◌↔◌}
 use Rattle.cfb_medium.specs.declared.medium.ReadMedium.{Ghosts}
 use Rattle.cfb_medium.specs.declared.version.Version.{Version}
 use Rattle.cfb_medium.specs.declared.version.Version.TheVariants.{V3, V4}
-use Rattle.cfb_fat.specs.Tables.{bytes_of, version_of, HasEnds, IsTold}
+use Rattle.cfb_fat.specs.Tables.{bytes_of, version_of, HasEnds, HeaderCountsTables}
 use Rattle.cfb_directory.specs.Views.{entries_held}
 use Rattle.cfb_mini.specs.Files.{count_told}
 use Rattle.cfb_mini.specs.Views.{allocator_of, directory_of}
 use Rattle.cfb_mini.specs.declared.mini_allocator.MiniAllocator.{MiniAllocator}
-use Rattle.cfb_meaning.specs.Means.{directory_count, IsStrictlyOpenable}
-use Rattle.cfb_owners.proofs.StrictIs.{strict_is, IsStrictIn}
+use Rattle.cfb_spec.specs.Means.{directory_count, IsStrictlyOpenable}
+use Rattle.cfb_ownership.proofs.StrictIs.{strict_is, IsStrictIn}
 use Rattle.cfb_siblings.specs.Changes.{AreColored}
 use Rattle.cfb_siblings.specs.Reading.{ReadBy}
-use Rattle.cfb_tree.specs.Names.{Letters}
+use Rattle.cfb_tree.specs.Names.{CaseTable}
 use Rattle.cfb_tree.specs.Tree.{Tree}
-use Rattle.cfb_live.specs.Live.{live_of, MeansLive}
-use Rattle.cfb_live.specs.Strays.{IsStrictLive}
-use Rattle.cfb_live.proofs.SetFacts.{means_held, means_ids}
-use Rattle.cfb_live.proofs.Streams.{reads}
-use Rattle.cfb_live.proofs.StrictFacts.{ids_are_one}
+use Rattle.cfb_tree_edits.specs.Live.{live_of, LiveFileMeansTree}
+use Rattle.cfb_tree_edits.specs.Orphans.{IsStrictLive}
+use Rattle.cfb_tree_edits.proofs.SetFacts.{means_held, means_ids}
+use Rattle.cfb_tree_edits.proofs.Streams.{reads}
+use Rattle.cfb_tree_edits.proofs.StrictFacts.{ids_are_one}
 
 -- the header's number of the directory's sectors
 same_count : (v : Version) (n : ℕ) → count_told v n ≡ directory_count v n
 same_count V3 n = refl
 same_count V4 n = refl
 
-module _ {F : Type 0} {g : Ghosts F} (letters : Letters) (it : MiniAllocator F g) (tree : Tree) (m : MeansLive letters it tree) where
-  told_strict : IsTold (allocator_of it) → HasEnds (allocator_of it) → IsStrictLive it → IsStrictIn (live_of it) m.who m.held.ids
+module _ {F : Type 0} {g : Ghosts F} (letters : CaseTable) (it : MiniAllocator F g) (tree : Tree) (m : LiveFileMeansTree letters it tree) where
+  told_strict : HeaderCountsTables (allocator_of it) → HasEnds (allocator_of it) → IsStrictLive it → IsStrictIn (live_of it) m.who m.held.ids
   unfolding live_of
   told_strict told ends live =
       let version = version_of (allocator_of it) in
@@ -45,7 +45,7 @@ module _ {F : Type 0} {g : Ghosts F} (letters : Letters) (it : MiniAllocator F g
         colors = colors.1;
       }
 
-  strict_told : IsStrictIn (live_of it) m.who m.held.ids → IsTold (allocator_of it) × HasEnds (allocator_of it) × IsStrictLive it
+  strict_told : IsStrictIn (live_of it) m.who m.held.ids → HeaderCountsTables (allocator_of it) × HasEnds (allocator_of it) × IsStrictLive it
   unfolding live_of
   strict_told strict =
       let version = version_of (allocator_of it) in
@@ -67,7 +67,7 @@ module _ {F : Type 0} {g : Ghosts F} (letters : Letters) (it : MiniAllocator F g
       )
 
   -- LAW: so it is
-  pub strict_bytes : (IsTold (allocator_of it) × HasEnds (allocator_of it) × IsStrictLive it) ↔ IsStrictlyOpenable letters (bytes_of (allocator_of it))
+  pub strict_bytes : (HeaderCountsTables (allocator_of it) × HasEnds (allocator_of it) × IsStrictLive it) ↔ IsStrictlyOpenable letters (bytes_of (allocator_of it))
   unfolding live_of
   strict_bytes =
       let is = strict_is (live_of it) m.who letters tree m.held in

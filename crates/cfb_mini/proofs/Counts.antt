@@ -5,12 +5,12 @@ use Rattle.cfb_medium.specs.declared.version.Version.{Version}
 use Rattle.cfb_medium.specs.declared.version.Version.TheVariants.{V3, V4}
 use Rattle.cfb_sectors.specs.Header.{directory_sector_count, mini_fat_sector_count}
 use Rattle.cfb_sectors.specs.Sectors.{filled_part, sector}
-use Rattle.cfb_chains.specs.Owned.{AreBesideWords, Leaves, Seen}
+use Rattle.cfb_chains.specs.Owned.{AreBesideWords, ChangesAtMost, SectorLayer}
 use Rattle.cfb_fat.specs.Seeing.{seen_of}
-use Rattle.cfb_fat.specs.Tables.{bytes_of, is_honest, version_of, AllRests}
+use Rattle.cfb_fat.specs.Tables.{bytes_of, is_honest, version_of, OnlyReadsAllocator}
 use Rattle.cfb_fat.specs.declared.allocator.Allocator.{Allocator}
-use Rattle.cfb_owned.specs.Chains.{GoesOn}
-use Rattle.cfb_directory.specs.Growth.{count_words, GrowsDirectory, IsCounted}
+use Rattle.cfb_chain_io.specs.ChainEffects.{KeepsFileInvariants}
+use Rattle.cfb_directory.specs.Growth.{count_words, GrowsDirectory, HeaderCountsDirectory}
 use Rattle.cfb_directory.specs.Views as directory
 use Rattle.cfb_directory.specs.declared.directory.Directory.{Directory}
 use Rattle.cfb_directory.proofs.Stages.{number_kept}
@@ -19,7 +19,7 @@ use Rattle.cfb_mini.specs.Views.{allocator_of, directory_of, mini_fat_ids}
 use Rattle.cfb_mini.specs.declared.mini_allocator.MiniAllocator.{MiniAllocator}
 
 -- the directory's number is right where it was, over a change that counts its sectors where the version has such a number
-counted_on : (v : Version) (S : List ℕ → ℕ → List ℕ) (touched : List ℕ) (a b : Seen) (n m : ℕ) → Leaves S (count_words v) touched a b → (IsCounted v a.bytes n → IsCounted v b.bytes m)
+counted_on : (v : Version) (S : List ℕ → ℕ → List ℕ) (touched : List ℕ) (a b : SectorLayer) (n m : ℕ) → ChangesAtMost S (count_words v) touched a b → (HeaderCountsDirectory v a.bytes n → HeaderCountsDirectory v b.bytes m)
     → directory_sector_count a.bytes ≡ count_told v n → directory_sector_count b.bytes ≡ count_told v m
 counted_on V3 S touched a b n m leaves counted was = number_kept a.bytes b.bytes 40 (leaves.header 40 4 (omega arith) (inl (omega arith), tt)) ∙ was
 counted_on V4 S touched a b n m leaves counted was = counted was
@@ -30,7 +30,7 @@ aside V3 = (inr (omega arith), tt)
 aside V4 = (inr (omega arith), (inr (omega arith), tt))
 
 module _ {F : Type 0} {g : Ghosts F} where
-  pub part_spared : (a b : Allocator F g) (words touched : List ℕ) → Leaves (sector (version_of a)) words touched (seen_of a) (seen_of b) → (place : ℕ) → place + 4 ≤ 68 → AreBesideWords (44 ∷ words) place 4
+  pub part_spared : (a b : Allocator F g) (words touched : List ℕ) → ChangesAtMost (sector (version_of a)) words touched (seen_of a) (seen_of b) → (place : ℕ) → place + 4 ≤ 68 → AreBesideWords (44 ∷ words) place 4
       → filled_part (bytes_of b) place 4 ≡ filled_part (bytes_of a) place 4
   unfolding seen_of
   part_spared a b words touched leaves place front beside = leaves.header place 4 front beside
@@ -46,14 +46,14 @@ module _ {F : Type 0} {g : Ghosts F} where
   }
 
   -- so it is of sectors alone
-  pub counts_beside : (old new : MiniAllocator F g) (touched : List ℕ) → GoesOn (allocator_of old) (allocator_of new) → Leaves (sector (version_of (allocator_of old))) [] touched (seen_of (allocator_of old)) (seen_of (allocator_of new))
+  pub counts_beside : (old new : MiniAllocator F g) (touched : List ℕ) → KeepsFileInvariants (allocator_of old) (allocator_of new) → ChangesAtMost (sector (version_of (allocator_of old))) [] touched (seen_of (allocator_of old)) (seen_of (allocator_of new))
       → directory.directory_ids (directory_of new) ≡ directory.directory_ids (directory_of old) → mini_fat_ids new ≡ mini_fat_ids old → HasHeader old → HasCounts old → HasCounts new
   unfolding seen_of
   counts_beside old new touched goes leaves ids fat =
       counts_stay old new goes.version (leaves.header 40 4 (omega arith) (inl (omega arith), tt)) (leaves.header 64 4 (omega arith) (inr (omega arith), tt)) ids fat
 
   -- and of a directory that grew
-  pub counts_grown : (it : MiniAllocator F g) (d : Directory F g) → GoesOn (allocator_of it) (directory.allocator_of d) → GrowsDirectory (directory_of it) d → HasHeader it → HasCounts it → HasCounts (record it { directory = d })
+  pub counts_grown : (it : MiniAllocator F g) (d : Directory F g) → KeepsFileInvariants (allocator_of it) (directory.allocator_of d) → GrowsDirectory (directory_of it) d → HasHeader it → HasCounts it → HasCounts (record it { directory = d })
   unfolding seen_of
   counts_grown it d goes grown h counts =
       let a = allocator_of it in
@@ -65,7 +65,7 @@ module _ {F : Type 0} {g : Ghosts F} where
       }
 
   -- and over reads
-  pub counts_rest : (old new : MiniAllocator F g) → AllRests (allocator_of old) (allocator_of new) → directory.directory_ids (directory_of new) ≡ directory.directory_ids (directory_of old) → mini_fat_ids new ≡ mini_fat_ids old
+  pub counts_rest : (old new : MiniAllocator F g) → OnlyReadsAllocator (allocator_of old) (allocator_of new) → directory.directory_ids (directory_of new) ≡ directory.directory_ids (directory_of old) → mini_fat_ids new ≡ mini_fat_ids old
       → IsTrue (is_honest (allocator_of old)) → HasCounts old → HasCounts new
   counts_rest old new rests ids fat honest counts =
       let same : bytes_of (allocator_of new) ≡ bytes_of (allocator_of old) = rests.sectors.bytes honest in record {

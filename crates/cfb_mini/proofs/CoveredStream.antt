@@ -4,11 +4,11 @@ use Rattle.std.specs.Prelude.{slice_get, slice_index_or, Some}
 use Rattle.cfb_medium.specs.Versions.{stream_len_mask}
 use Rattle.cfb_medium.specs.declared.medium.ReadMedium.{Ghosts}
 use Rattle.cfb_sectors.specs.Sectors.{end_of_chain, sector}
-use Rattle.cfb_chains.specs.Owned.{Becomes, Stays}
-use Rattle.cfb_fat.specs.Resting.{all_rest_refl}
+use Rattle.cfb_chains.specs.Owned.{ReplacesChain, KeepsOwnedSectors}
+use Rattle.cfb_fat.specs.OnlyReads.{all_rest_refl}
 use Rattle.cfb_fat.specs.Seeing.{seen_of}
 use Rattle.cfb_fat.specs.Tables.{has_failed_here, version_of}
-use Rattle.cfb_owned.specs.Chains.{GoesOn}
+use Rattle.cfb_chain_io.specs.ChainEffects.{KeepsFileInvariants}
 use Rattle.cfb_tree.specs.Directory.{Entry}
 use Rattle.cfb_tree.proofs.OneContent.{Some_same}
 use Rattle.cfb_directory.specs.Changes.{LiesBeside, SetsEntry}
@@ -16,8 +16,8 @@ use Rattle.cfb_directory.specs.Entries.{SizesFit}
 use Rattle.cfb_directory.specs.Views as directory
 use Rattle.cfb_directory.specs.declared.directory.Directory.{Directory}
 use Rattle.cfb_directory.proofs.Setting.{has_directory}
-use Rattle.cfb_mini.specs.Changing.{CoversStream, HasOwners, IsCovered, Lengthens}
-use Rattle.cfb_mini.specs.Views.{allocator_of, directory_of, mini_stream_ids, mini_stream_len, MiniRests}
+use Rattle.cfb_mini.specs.Changing.{CoversStream, HasUniqueOwners, IsCovered, AppendsMiniSectors}
+use Rattle.cfb_mini.specs.Views.{allocator_of, directory_of, mini_stream_ids, mini_stream_len, OnlyReadsMini}
 use Rattle.cfb_mini.specs.declared.mini_allocator.MiniAllocator.{MiniAllocator}
 use Rattle.cfb_mini.proofs.Counts.{counts_beside, part_spared}
 use Rattle.cfb_mini.proofs.DirectoryChanges.{directory_beside, directory_changes, first_start}
@@ -36,9 +36,9 @@ set_root xs x y root found now = Some_same (sym now ∙ first xs found)
     first (z ∷ l) is = refl
 
 module _ {F : Type 0} {g : Ghosts F} where
-  pub covers_is : (it : MiniAllocator F g) (d : Directory F g) (own : ℕ → List ℕ) (start len : ℕ) (e : Entry) → HasOwners it own → has_failed_here (allocator_of it) ≡ false → GoesOn (allocator_of it) (directory.allocator_of d)
+  pub covers_is : (it : MiniAllocator F g) (d : Directory F g) (own : ℕ → List ℕ) (start len : ℕ) (e : Entry) → HasUniqueOwners it own → has_failed_here (allocator_of it) ≡ false → KeepsFileInvariants (allocator_of it) (directory.allocator_of d)
       → start ≡ slice_index_or (mini_stream_ids it) 0 end_of_chain → len ≡ mini_stream_len it → len ≤ stream_len_mask (version_of (allocator_of it)) → slice_get (directory.entries_held (directory_of it)) 0 ≡ Some e
-      → SetsEntry 0 (placed e start len) (directory_of it) d → (directory.IsDirectory (directory_of it) → LiesBeside (directory_of it) → directory.IsDirectory d) → CoversStream it (record it { directory = d }) own
+      → SetsEntry 0 (placed e start len) (directory_of it) d → (directory.DirectoryMatchesBytes (directory_of it) → LiesBeside (directory_of it) → directory.DirectoryMatchesBytes d) → CoversStream it (record it { directory = d }) own
   covers_is it d own start len e h live goes start_is len_is fits found sets remembers =
       let a = allocator_of it in
       let b = directory.allocator_of d in
@@ -47,10 +47,10 @@ module _ {F : Type 0} {g : Ghosts F} where
       let held = directory.entries_held (directory_of it) in
       let ids = directory.directory_ids (directory_of it) in
       let becomes = sets.becomes (has_directory (directory_of it) live h.honest h.memory.directory (directory_beside it own h)) in
-      let mine : Becomes (sector v) [] (own 0) [] (own 0) (seen_of a) (seen_of b) = subst (λ l. Becomes (sector v) [] l [] l (seen_of a) (seen_of b)) (sym h.directory) becomes in
-      let stays : (k : ℕ) → (k ≡ 0 → ⊥) → Stays (sector v) (seen_of a) (seen_of b) (own k) = others_stay a b own 0 h.owned mine in
-      let stream_stays : Stays (sector v) (seen_of a) (seen_of b) (mini_stream_ids it) = subst (Stays (sector v) (seen_of a) (seen_of b)) h.mini_stream (stays 2 (λ same. omega (arith, same))) in
-      let changes = directory_changes [] [] it d own h goes (sets.ids ∙ sym (append-nil ids)) (subst (λ l. Becomes (sector v) [] ids [] l (seen_of a) (seen_of b)) (sym sets.ids) becomes) remembers
+      let mine : ReplacesChain (sector v) [] (own 0) [] (own 0) (seen_of a) (seen_of b) = subst (λ l. ReplacesChain (sector v) [] l [] l (seen_of a) (seen_of b)) (sym h.directory) becomes in
+      let stays : (k : ℕ) → (k ≡ 0 → ⊥) → KeepsOwnedSectors (sector v) (seen_of a) (seen_of b) (own k) = others_stay a b own 0 h.owned mine in
+      let stream_stays : KeepsOwnedSectors (sector v) (seen_of a) (seen_of b) (mini_stream_ids it) = subst (KeepsOwnedSectors (sector v) (seen_of a) (seen_of b)) h.mini_stream (stays 2 (λ same. omega (arith, same))) in
+      let changes = directory_changes [] [] it d own h goes (sets.ids ∙ sym (append-nil ids)) (subst (λ l. ReplacesChain (sector v) [] ids [] l (seen_of a) (seen_of b)) (sym sets.ids) becomes) remembers
       (λ root at. first_start held 0 e (placed e start len) root _ found (λ same. start_is ∙ sym (h.memory.stream_at e found)) h.memory.stream_at (ap (λ l. slice_get l 0) (sym sets.entries) ∙ at))
       (counts_beside it new _ goes becomes.leaves sets.ids refl) in
       record {
@@ -74,7 +74,7 @@ module _ {F : Type 0} {g : Ghosts F} where
       omega (arith, size, len_is)
 
   -- what covers the mini stream covers it as it becomes longer
-  pub covered_longer : (b c : MiniAllocator F g) (minis later : List ℕ) (own : ℕ → List ℕ) → version_of (allocator_of c) ≡ version_of (allocator_of b) → HasOwners b own → Lengthens b c minis later own → IsCovered b → IsCovered c
+  pub covered_longer : (b c : MiniAllocator F g) (minis later : List ℕ) (own : ℕ → List ℕ) → version_of (allocator_of c) ≡ version_of (allocator_of b) → HasUniqueOwners b own → AppendsMiniSectors b c minis later own → IsCovered b → IsCovered c
   covered_longer b c minis later own version was h covered root at = ⊎_elim
       (λ same.
       let len = len_same b c version was.memory (lengthened_owners b c minis later own h).memory same.1 in
@@ -89,7 +89,7 @@ module _ {F : Type 0} {g : Ghosts F} where
       h.entries
 
   -- nothing was done
-  pub mini_rests_refl : (it : MiniAllocator F g) → MiniRests it it
+  pub mini_rests_refl : (it : MiniAllocator F g) → OnlyReadsMini it it
   mini_rests_refl it = record {
     directory = record { allocator = all_rest_refl (allocator_of it); ids = refl; entries = refl; kept = λ is. is };
     mini_fat_ids = refl;

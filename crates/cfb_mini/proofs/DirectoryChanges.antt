@@ -4,20 +4,20 @@ use Rattle.std.specs.Prelude.{slice_get, slice_index_or, Some}
 use Rattle.cfb_medium.specs.Numbers.{numbers}
 use Rattle.cfb_medium.specs.declared.medium.ReadMedium.{Ghosts}
 use Rattle.cfb_sectors.specs.Sectors.{end_of_chain, sector}
-use Rattle.cfb_chains.specs.Changes.{AreNoneOf}
+use Rattle.cfb_chains.specs.Changes.{AreDisjoint}
 use Rattle.cfb_chains.specs.LinkViews.{ids_of}
-use Rattle.cfb_chains.specs.Owned.{Becomes, Moves, Owned, Stays}
+use Rattle.cfb_chains.specs.Owned.{ReplacesChain, ReplacesOwnedChain, OwnDisjointChains, KeepsOwnedSectors}
 use Rattle.cfb_chains.proofs.Owners.{other_left, owned_changed}
 use Rattle.cfb_fat.specs.Seeing.{seen_of}
-use Rattle.cfb_fat.specs.Tables.{difat_sectors_of, fat_of, fat_sectors_of, tables_of, version_of, AllRests}
-use Rattle.cfb_owned.specs.Chains.{GoesOn}
+use Rattle.cfb_fat.specs.Tables.{difat_sectors_of, fat_of, fat_sectors_of, tables_of, version_of, OnlyReadsAllocator}
+use Rattle.cfb_chain_io.specs.ChainEffects.{KeepsFileInvariants}
 use Rattle.cfb_tree.specs.Directory.{Entry}
 use Rattle.cfb_tree.proofs.OneContent.{Some_same}
 use Rattle.cfb_directory.specs.Changes.{LiesBeside}
 use Rattle.cfb_directory.specs.Children.{AddsAt, RemovesAt}
 use Rattle.cfb_directory.specs.Views as directory
 use Rattle.cfb_directory.specs.declared.directory.Directory.{Directory}
-use Rattle.cfb_mini.specs.Changing.{ChangesDirectory, HasOwners, KeepsOwners}
+use Rattle.cfb_mini.specs.Changing.{ChangesDirectory, HasUniqueOwners, KeepsOwnership}
 use Rattle.cfb_mini.specs.Children.{HasRoot}
 use Rattle.cfb_mini.specs.Files.{HasCounts, HasHeader}
 use Rattle.cfb_mini.specs.Views.{allocator_of, directory_of, mini_stream_ids}
@@ -56,13 +56,13 @@ first_start (x ∷ xs) (suc id) e f root start found keeps at now = at root now
 
 module _ {F : Type 0} {g : Ghosts F} where
   -- what has the directory's sectors lies beside the tables
-  pub directory_beside : (it : MiniAllocator F g) (own : ℕ → List ℕ) → HasOwners it own → LiesBeside (directory_of it)
-  directory_beside it own h = subst (AreNoneOf (tables_of (allocator_of it))) h.directory (h.owned.beside 0)
+  pub directory_beside : (it : MiniAllocator F g) (own : ℕ → List ℕ) → HasUniqueOwners it own → LiesBeside (directory_of it)
+  directory_beside it own h = subst (AreDisjoint (tables_of (allocator_of it))) h.directory (h.owned.beside 0)
 
-  pub directory_changes : (words more : List ℕ) (it : MiniAllocator F g) (d : Directory F g) (own : ℕ → List ℕ) → HasOwners it own → GoesOn (allocator_of it) (directory.allocator_of d)
+  pub directory_changes : (words more : List ℕ) (it : MiniAllocator F g) (d : Directory F g) (own : ℕ → List ℕ) → HasUniqueOwners it own → KeepsFileInvariants (allocator_of it) (directory.allocator_of d)
       → directory.directory_ids d ≡ directory.directory_ids (directory_of it) ++ more
-      → Becomes (sector (version_of (allocator_of it))) words (directory.directory_ids (directory_of it)) more (directory.directory_ids d) (seen_of (allocator_of it)) (seen_of (directory.allocator_of d))
-      → (directory.IsDirectory (directory_of it) → LiesBeside (directory_of it) → directory.IsDirectory d)
+      → ReplacesChain (sector (version_of (allocator_of it))) words (directory.directory_ids (directory_of it)) more (directory.directory_ids d) (seen_of (allocator_of it)) (seen_of (directory.allocator_of d))
+      → (directory.DirectoryMatchesBytes (directory_of it) → LiesBeside (directory_of it) → directory.DirectoryMatchesBytes d)
       → ((root : Entry) → slice_get (directory.entries_held d) 0 ≡ Some root → root.start ≡ slice_index_or (mini_stream_ids it) 0 end_of_chain)
       → (HasHeader it → HasCounts it → HasCounts (record it { directory = d })) → ChangesDirectory words it (record it { directory = d }) own
   unfolding seen_of
@@ -71,13 +71,13 @@ module _ {F : Type 0} {g : Ghosts F} where
       let b = directory.allocator_of d in
       let v = version_of a in
       let ids = directory.directory_ids d in
-      let mine : Becomes (sector v) words (own 0) more ids (seen_of a) (seen_of b) = subst (λ l. Becomes (sector v) words l more ids (seen_of a) (seen_of b)) (sym h.directory) becomes in
-      let moves : Moves (sector v) words 0 ids more (seen_of a) (seen_of b) own (pick own 0 ids) = record { becomes = mine; mine = pick_mine own 0 ids; others = pick_other own 0 ids } in
-      let stays : (k : ℕ) → (k ≡ 0 → ⊥) → Stays (sector v) (seen_of a) (seen_of b) (own k) = other_left (sector v) (seen_of a) (seen_of b) own (pick own 0 ids) 0 words ids more h.owned moves in
+      let mine : ReplacesChain (sector v) words (own 0) more ids (seen_of a) (seen_of b) = subst (λ l. ReplacesChain (sector v) words l more ids (seen_of a) (seen_of b)) (sym h.directory) becomes in
+      let moves : ReplacesOwnedChain (sector v) words 0 ids more (seen_of a) (seen_of b) own (pick own 0 ids) = record { becomes = mine; mine = pick_mine own 0 ids; others = pick_other own 0 ids } in
+      let stays : (k : ℕ) → (k ≡ 0 → ⊥) → KeepsOwnedSectors (sector v) (seen_of a) (seen_of b) (own k) = other_left (sector v) (seen_of a) (seen_of b) own (pick own 0 ids) 0 words ids more h.owned moves in
       let fat_ids = ids_of it.mini_fat.links in
       let stream_ids = ids_of it.mini_fat.stream in
-      let fat_stays : Stays (sector v) (seen_of a) (seen_of b) fat_ids = subst (Stays (sector v) (seen_of a) (seen_of b)) h.mini_fat (stays 1 (λ same. omega (arith, same))) in
-      let stream_stays : Stays (sector v) (seen_of a) (seen_of b) stream_ids = subst (Stays (sector v) (seen_of a) (seen_of b)) h.mini_stream (stays 2 (λ same. omega (arith, same))) in
+      let fat_stays : KeepsOwnedSectors (sector v) (seen_of a) (seen_of b) fat_ids = subst (KeepsOwnedSectors (sector v) (seen_of a) (seen_of b)) h.mini_fat (stays 1 (λ same. omega (arith, same))) in
+      let stream_stays : KeepsOwnedSectors (sector v) (seen_of a) (seen_of b) stream_ids = subst (KeepsOwnedSectors (sector v) (seen_of a) (seen_of b)) h.mini_stream (stays 2 (λ same. omega (arith, same))) in
       record {
         more = more;
         ids = longer;
@@ -105,8 +105,8 @@ module _ {F : Type 0} {g : Ghosts F} where
       }
 
   -- nothing happened but reads
-  pub keeps_owners : (it : MiniAllocator F g) (d : Directory F g) → AllRests (allocator_of it) (directory.allocator_of d) → directory.directory_ids d ≡ directory.directory_ids (directory_of it) → directory.entries_held d ≡ directory.entries_held (directory_of it)
-      → (directory.IsDirectory (directory_of it) → LiesBeside (directory_of it) → directory.IsDirectory d) → KeepsOwners it (record it { directory = d })
+  pub keeps_owners : (it : MiniAllocator F g) (d : Directory F g) → OnlyReadsAllocator (allocator_of it) (directory.allocator_of d) → directory.directory_ids d ≡ directory.directory_ids (directory_of it) → directory.entries_held d ≡ directory.entries_held (directory_of it)
+      → (directory.DirectoryMatchesBytes (directory_of it) → LiesBeside (directory_of it) → directory.DirectoryMatchesBytes d) → KeepsOwnership it (record it { directory = d })
   keeps_owners it d rests ids entries remembers =
       let a = allocator_of it in
       let b = directory.allocator_of d in record {
@@ -120,7 +120,7 @@ module _ {F : Type 0} {g : Ghosts F} where
             over = over_rests a b it.mini_fat it.mini_fat rests (record { links = refl; stream = refl }) refl h.memory.over;
             stream_at = λ root found. h.memory.stream_at root (ap (λ l. slice_get l 0) (sym entries) ∙ found);
           };
-          owned = subst (λ t. Owned t (tables_of b) own) (sym rests.fat) (subst (λ t. Owned (fat_of a) t own) (ap (λ l. l ++ fat_sectors_of a) (sym rests.difat_sectors) ∙ ap (λ l. difat_sectors_of b ++ l) (sym rests.fat_sectors)) h.owned);
+          owned = subst (λ t. OwnDisjointChains t (tables_of b) own) (sym rests.fat) (subst (λ t. OwnDisjointChains (fat_of a) t own) (ap (λ l. l ++ fat_sectors_of a) (sym rests.difat_sectors) ∙ ap (λ l. difat_sectors_of b ++ l) (sym rests.fat_sectors)) h.owned);
           directory = h.directory ∙ sym ids;
           mini_fat = h.mini_fat;
           mini_stream = h.mini_stream;

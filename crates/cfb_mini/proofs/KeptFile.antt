@@ -6,11 +6,11 @@ use Rattle.cfb_medium.specs.declared.medium.ReadMedium.{Ghosts}
 use Rattle.cfb_medium.specs.declared.version.Version.{Version}
 use Rattle.cfb_sectors.specs.Header.{first_directory_sector, first_mini_fat_sector, IsHeader}
 use Rattle.cfb_sectors.specs.Sectors.{end_of_chain, filled_part, sector}
-use Rattle.cfb_chains.specs.Owned.{Leaves}
+use Rattle.cfb_chains.specs.Owned.{ChangesAtMost}
 use Rattle.cfb_fat.specs.Seeing.{seen_of}
 use Rattle.cfb_fat.specs.Tables.{bytes_of, is_honest, version_of}
 use Rattle.cfb_fat.specs.declared.allocator.Allocator.{Allocator}
-use Rattle.cfb_owned.specs.Chains.{GoesOn}
+use Rattle.cfb_chain_io.specs.ChainEffects.{KeepsFileInvariants}
 use Rattle.cfb_tree.specs.Directory.{Entry}
 use Rattle.cfb_tree.proofs.OneContent.{Some_same}
 use Rattle.cfb_directory.specs.Entries.{SizesFit}
@@ -18,7 +18,7 @@ use Rattle.cfb_directory.specs.Views.{directory_ids, entries_held}
 use Rattle.cfb_directory.proofs.Stages.{number_kept}
 use Rattle.cfb_mini.specs.Files.{count_told, LeavesFile}
 use Rattle.cfb_mini.specs.FatGrowth.{mini_fat_words, TellsMiniFat}
-use Rattle.cfb_mini.specs.Views.{allocator_of, directory_of, mini_fat_ids, mini_stream_ids, MiniRests}
+use Rattle.cfb_mini.specs.Views.{allocator_of, directory_of, mini_fat_ids, mini_stream_ids, OnlyReadsMini}
 use Rattle.cfb_mini.specs.declared.mini_allocator.MiniAllocator.{MiniAllocator}
 use Rattle.cfb_mini.proofs.Counts.{counts_rest, counts_stay, part_spared}
 use Rattle.cfb_mini.proofs.Headers.{header_stays, u32_same, KeepsFront}
@@ -32,16 +32,16 @@ sizes_set v (y ∷ xs) (suc id) f few fits zero x at = fits 0 x at
 sizes_set v (y ∷ xs) (suc id) f few fits (suc k) x at = sizes_set v xs id f few (λ j. fits (suc j)) k x at
 
 module _ {F : Type 0} {g : Ghosts F} where
-  pub front_kept : (a b : Allocator F g) (touched : List ℕ) → Leaves (sector (version_of a)) [] touched (seen_of a) (seen_of b) → KeepsFront 68 (bytes_of a) (bytes_of b)
+  pub front_kept : (a b : Allocator F g) (touched : List ℕ) → ChangesAtMost (sector (version_of a)) [] touched (seen_of a) (seen_of b) → KeepsFront 68 (bytes_of a) (bytes_of b)
   unfolding seen_of
   front_kept a b touched leaves place count front beside = leaves.header place count front (⊎_elim (λ before. inl (omega (arith, before))) (λ behind. inr (omega (arith, behind))) beside, tt)
 
-  front_words : (a b : Allocator F g) (touched : List ℕ) → Leaves (sector (version_of a)) mini_fat_words touched (seen_of a) (seen_of b) → KeepsFront 60 (bytes_of a) (bytes_of b)
+  front_words : (a b : Allocator F g) (touched : List ℕ) → ChangesAtMost (sector (version_of a)) mini_fat_words touched (seen_of a) (seen_of b) → KeepsFront 60 (bytes_of a) (bytes_of b)
   unfolding seen_of
   front_words a b touched leaves place count front beside =
       leaves.header place count (omega (arith, front)) (⊎_elim (λ before. inl (omega (arith, before))) (λ behind. inr (omega (arith, behind))) beside, (inl front, (inl (omega (arith, front)), tt)))
 
-  pub longer_by : (a b : Allocator F g) (words touched : List ℕ) → Leaves (sector (version_of a)) words touched (seen_of a) (seen_of b) → length (bytes_of a) ≤ length (bytes_of b)
+  pub longer_by : (a b : Allocator F g) (words touched : List ℕ) → ChangesAtMost (sector (version_of a)) words touched (seen_of a) (seen_of b) → length (bytes_of a) ≤ length (bytes_of b)
   unfolding seen_of
   longer_by a b words touched leaves = leaves.longer
 
@@ -59,7 +59,7 @@ module _ {F : Type 0} {g : Ghosts F} where
   }
 
   -- over reads
-  pub file_rests : (b c : MiniAllocator F g) → IsTrue (is_honest (allocator_of b)) → MiniRests b c → LeavesFile b c
+  pub file_rests : (b c : MiniAllocator F g) → IsTrue (is_honest (allocator_of b)) → OnlyReadsMini b c → LeavesFile b c
   file_rests b c honest rests =
       let layer = rests.directory.allocator.sectors in
       let same : bytes_of (allocator_of c) ≡ bytes_of (allocator_of b) = layer.bytes honest in
@@ -99,7 +99,7 @@ module _ {F : Type 0} {g : Ghosts F} where
       }
 
   -- over one of sectors alone
-  pub file_beside : (old new : MiniAllocator F g) (touched : List ℕ) → GoesOn (allocator_of old) (allocator_of new) → Leaves (sector (version_of (allocator_of old))) [] touched (seen_of (allocator_of old)) (seen_of (allocator_of new))
+  pub file_beside : (old new : MiniAllocator F g) (touched : List ℕ) → KeepsFileInvariants (allocator_of old) (allocator_of new) → ChangesAtMost (sector (version_of (allocator_of old))) [] touched (seen_of (allocator_of old)) (seen_of (allocator_of new))
       → directory_ids (directory_of new) ≡ directory_ids (directory_of old) → mini_fat_ids new ≡ mini_fat_ids old → mini_stream_ids new ≡ mini_stream_ids old → entries_held (directory_of new) ≡ entries_held (directory_of old) → LeavesFile old new
   file_beside old new touched goes leaves ids fat stream entries =
       file_spared old new [] goes.version (longer_by (allocator_of old) (allocator_of new) [] touched leaves) (front_kept (allocator_of old) (allocator_of new) touched leaves)
@@ -107,7 +107,7 @@ module _ {F : Type 0} {g : Ghosts F} where
       (subst (SizesFit (version_of (allocator_of old))) (sym entries))
 
   -- over one that tells the header of another mini FAT
-  pub file_told : (old new : MiniAllocator F g) (touched : List ℕ) → GoesOn (allocator_of old) (allocator_of new) → Leaves (sector (version_of (allocator_of old))) mini_fat_words touched (seen_of (allocator_of old)) (seen_of (allocator_of new))
+  pub file_told : (old new : MiniAllocator F g) (touched : List ℕ) → KeepsFileInvariants (allocator_of old) (allocator_of new) → ChangesAtMost (sector (version_of (allocator_of old))) mini_fat_words touched (seen_of (allocator_of old)) (seen_of (allocator_of new))
       → TellsMiniFat (bytes_of (allocator_of new)) (mini_fat_ids new) → directory_ids (directory_of new) ≡ directory_ids (directory_of old) → mini_stream_ids new ≡ mini_stream_ids old
       → entries_held (directory_of new) ≡ entries_held (directory_of old) → LeavesFile old new
   file_told old new touched goes leaves told ids stream entries =

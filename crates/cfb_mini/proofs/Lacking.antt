@@ -3,7 +3,7 @@ use Rattle.std.proofs.Common.{◌≡◌, ℕ, suc, ◌+◌, ◌-◌, ◌*◌, �
 use Rattle.std.specs.List.{count_by}
 use Rattle.std.specs.Prelude.{◌⊎◌, false, nat_eq, true, Err, IfErr, Ok, Result}
 use Rattle.std.proofs.lemmas.Bool.Decides.{leb_tells}
-use Rattle.cfb_medium.specs.Calls.{IsFaultUnless}
+use Rattle.cfb_medium.specs.Calls.{IsFaultOrInvalidInputIf}
 use Rattle.cfb_medium.specs.Versions.{sector_len, stream_len_mask}
 use Rattle.cfb_medium.specs.declared.error.Error.{Error}
 use Rattle.cfb_medium.specs.declared.error.Error.TheVariants.{Failed, Full, InvalidData, Memory}
@@ -13,12 +13,12 @@ use Rattle.cfb_medium.specs.declared.version.Version.TheVariants.{V3, V4}
 use Rattle.cfb_sectors.specs.Sectors.{free, greatest_regular}
 use Rattle.cfb_chains.specs.Positions.{sectors_for}
 use Rattle.cfb_chains.specs.ChainCalls.{IsInvalidOrFull}
-use Rattle.cfb_fat.specs.Calls.{FatAnswers}
-use Rattle.cfb_fat.specs.Growing.{LacksNumbers}
-use Rattle.cfb_fat.specs.Tables.{fat_of, has_failed_here, version_of, AllRests}
+use Rattle.cfb_fat.specs.Calls.{FatErrorContract}
+use Rattle.cfb_fat.specs.Growing.{LacksSectorNumbers}
+use Rattle.cfb_fat.specs.Tables.{fat_of, has_failed_here, version_of, OnlyReadsAllocator}
 use Rattle.cfb_fat.specs.declared.allocator.Allocator.{Allocator}
-use Rattle.cfb_mini.specs.Changing.{free_minis, stream_sectors, table_sectors, LacksMini, LacksTables}
-use Rattle.cfb_mini.specs.Views.{allocator_of, mini_fat_ids, mini_fat_of, mini_stream_ids, mini_stream_len, IsMini, MiniRests}
+use Rattle.cfb_mini.specs.Changing.{free_minis, stream_sectors, table_sectors, LacksMiniSectors, LacksTables}
+use Rattle.cfb_mini.specs.Views.{allocator_of, mini_fat_ids, mini_fat_of, mini_stream_ids, mini_stream_len, MiniMatchesBytes, OnlyReadsMini}
 use Rattle.cfb_mini.specs.declared.mini_allocator.MiniAllocator.{MiniAllocator}
 use Rattle.cfb_mini.proofs.Longer.{lacks_rest, len_same}
 
@@ -50,11 +50,11 @@ module _ {F : Type 0} {g : Ghosts F} where
       ⊎_elim (λ numbers. inl (omega (arith, numbers, held, told))) (λ size. inr (longer v (stream_len_mask v) (stream_sectors few it) (stream_sectors many it) held size)) lacks
 
   -- what is missing for some is missing for more
-  pub lacks_fewer : (it : MiniAllocator F g) (few many : ℕ) → few ≤ many → LacksMini few it → LacksMini many it
+  pub lacks_fewer : (it : MiniAllocator F g) (few many : ℕ) → few ≤ many → LacksMiniSectors few it → LacksMiniSectors many it
   lacks_fewer it few many most = ⊎_elim (λ one. inl one) (λ more. let some = more.0 in inr (omega (arith, some, most), tables_more it (few - free_minis it) (many - free_minis it) (omega (arith, most)) more.1))
 
   -- what was missing after reads was missing before
-  pub lacks_before : (b c : MiniAllocator F g) (count : ℕ) → IsMini b → MiniRests b c → LacksMini count c → LacksMini count b
+  pub lacks_before : (b c : MiniAllocator F g) (count : ℕ) → MiniMatchesBytes b → OnlyReadsMini b c → LacksMiniSectors count c → LacksMiniSectors count b
   unfolding LacksTables lacks_by
   lacks_before b c count is rests =
       let layer = rests.directory.allocator in
@@ -76,12 +76,12 @@ module _ {F : Type 0} {g : Ghosts F} where
 
   -- what was counted up to a bound that it didn't reach is all, and what is wanted for the rest is what is missing
   pub lacks_sectors : (it : MiniAllocator F g) (count found wanted : ℕ) → found ≤ count → (found ≡ count → ⊥) → (found < count → found ≡ free_minis it)
-      → wanted ≡ (stream_sectors (count - found) it - length (mini_stream_ids it)) + (table_sectors (count - found) it - length (mini_fat_ids it)) → LacksNumbers (allocator_of it) wanted
+      → wanted ≡ (stream_sectors (count - found) it - length (mini_stream_ids it)) + (table_sectors (count - found) it - length (mini_fat_ids it)) → LacksSectorNumbers (allocator_of it) wanted
       → (free_minis it < count) × LacksTables (count - free_minis it) it
   unfolding LacksTables
   lacks_sectors it count found wanted most short all is lacks =
       let few : found < count = lt_of most short in
-      subst (λ n. (n < count) × LacksTables (count - n) it) (all few) (few, inl (subst (LacksNumbers (allocator_of it)) is lacks))
+      subst (λ n. (n < count) × LacksTables (count - n) it) (all few) (few, inl (subst (LacksSectorNumbers (allocator_of it)) is lacks))
 
   pub lacks_size : (it : MiniAllocator F g) (count found : ℕ) → found ≤ count → (found ≡ count → ⊥) → (found < count → found ≡ free_minis it)
       → stream_len_mask (version_of (allocator_of it)) < stream_sectors (count - found) it * sector_len (version_of (allocator_of it)) → (free_minis it < count) × LacksTables (count - free_minis it) it
@@ -91,8 +91,8 @@ module _ {F : Type 0} {g : Ghosts F} where
       subst (λ n. (n < count) × LacksTables (count - n) it) (all few) (few, inr size)
 
   -- a question that was refused, of a layer that lives
-  pub asked_answers : {T : Type 0} (r : Result T Error) (a b : Allocator F g) → AllRests a b → has_failed_here a ≡ false
-      → IfErr r (λ e. ((e ≡ Failed) × (has_failed_here a ≡ true)) ⊎ (e ≡ InvalidData) ⊎ (e ≡ Memory) ⊎ (e ≡ Full)) → FatAnswers IsInvalidOrFull r a b
+  pub asked_answers : {T : Type 0} (r : Result T Error) (a b : Allocator F g) → OnlyReadsAllocator a b → has_failed_here a ≡ false
+      → IfErr r (λ e. ((e ≡ Failed) × (has_failed_here a ≡ true)) ⊎ (e ≡ InvalidData) ⊎ (e ≡ Memory) ⊎ (e ≡ Full)) → FatErrorContract IsInvalidOrFull r a b
   asked_answers (Ok x) a b rests live says = record { live = (live, rests.sectors.failed ∙ live); failed = λ was. absurd (let no = live in cc); after = tt; cause = tt; fault = tt }
   asked_answers (Err e) a b rests live says =
       let kinds : (e ≡ InvalidData) ⊎ (e ≡ Memory) ⊎ (e ≡ Full) = ⊎_elim (λ failed. absurd (let was = failed.1 in let no = live in cc)) (λ rest. rest) says in
@@ -104,5 +104,5 @@ module _ {F : Type 0} {g : Ghosts F} where
           device = λ is. ⊎_elim (λ p. absurd (let q = is in cc)) (⊎_elim (λ p. absurd (let q = is in cc)) (λ p. absurd (let q = is in cc))) kinds;
           earlier = λ is. ⊎_elim (λ p. absurd (let q = is in cc)) (⊎_elim (λ p. absurd (let q = is in cc)) (λ p. absurd (let q = is in cc))) kinds;
         };
-        fault = ⊎_elim (λ p. inr (inl p)) (⊎_elim (λ p. inl (subst (IsFaultUnless ⊥) (sym p) tt)) (λ p. inr (inr p))) kinds;
+        fault = ⊎_elim (λ p. inr (inl p)) (⊎_elim (λ p. inl (subst (IsFaultOrInvalidInputIf ⊥) (sym p) tt)) (λ p. inr (inr p))) kinds;
       }

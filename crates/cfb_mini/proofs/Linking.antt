@@ -6,8 +6,8 @@ use Rattle.std.proofs.Math.Seq.{get_or-append_right}
 use Rattle.std.proofs.lemmas.List.{get_or_append_left, length-set, get_or-set_other, get_or-set_same}
 use Rattle.std.proofs.lemmas.Option.{get_or_from_slice_get, slice_get-get_or, slice_get_within}
 use Rattle.cfb_sectors.specs.Sectors.{end_of_chain, free, greatest_regular, Chain as IsChain}
-use Rattle.cfb_chains.specs.Changes.{AreAmong, StayBut}
-use Rattle.cfb_chains.specs.Grown.{IsLinked}
+use Rattle.cfb_chains.specs.Changes.{AreSubsetOf, SameExceptAt}
+use Rattle.cfb_chains.specs.Grown.{IsChainInTable}
 use Rattle.cfb_chains.proofs.ChainGrowing.{extended}
 use Rattle.cfb_mini.specs.NextSector.{linked_behind, linked_pair, HasNumber}
 
@@ -20,7 +20,7 @@ last_ends table start (x ∷ y ∷ ids) zero size chain = absurd (omega (arith, 
 last_ends table start (x ∷ y ∷ ids) (suc m) size (is, regular, next, found, rest) = last_ends table next (y ∷ ids) m (omega (arith, size)) rest
 
 -- so the table has a number for it
-pub last_there : (table ids : List ℕ) (m : ℕ) → suc m ≡ length ids → IsLinked table ids → get_or ids m 0 < length table
+pub last_there : (table ids : List ℕ) (m : ℕ) → suc m ≡ length ids → IsChainInTable table ids → get_or ids m 0 < length table
 last_there table ids m size linked =
     let end = last_ends table (slice_index_or ids 0 end_of_chain) ids m size linked in
     slice_get_within table (get_or ids m 0) end.2 end.3
@@ -36,12 +36,12 @@ set_beside table n m x y differ below is =
     let inner = length-set table m y in
     slice_get-get_or (set (set table m y) n x) m 0 (omega (arith, size, inner, below)) ∙ ap Some (get_or-set_other (set table m y) n m x 0 differ ∙ get_or-set_same table m y 0 below)
 
-pub linked_first : (table ids : List ℕ) (taken : ℕ) → length ids ≡ 0 → taken ≤ greatest_regular → taken < length table → IsLinked (set table taken end_of_chain) (ids ++ taken ∷ [])
+pub linked_first : (table ids : List ℕ) (taken : ℕ) → length ids ≡ 0 → taken ≤ greatest_regular → taken < length table → IsChainInTable (set table taken end_of_chain) (ids ++ taken ∷ [])
 linked_first table [] taken none regular below = (refl, regular, end_of_chain, set_there table taken end_of_chain below, refl)
 linked_first table (x ∷ ids) taken none regular below = absurd (omega (arith, none))
 
-pub linked_more : (table ids : List ℕ) (m last taken : ℕ) → suc m ≡ length ids → last ≡ get_or ids m 0 → taken ≤ greatest_regular → slice_get table taken ≡ Some free → IsLinked table ids
-    → IsLinked (set (set table taken end_of_chain) last taken) (ids ++ taken ∷ [])
+pub linked_more : (table ids : List ℕ) (m last taken : ℕ) → suc m ≡ length ids → last ≡ get_or ids m 0 → taken ≤ greatest_regular → slice_get table taken ≡ Some free → IsChainInTable table ids
+    → IsChainInTable (set (set table taken end_of_chain) last taken) (ids ++ taken ∷ [])
 linked_more table ids m last taken size is regular found linked =
     let ends = last_ends table (slice_index_or ids 0 end_of_chain) ids m size linked in
     let was : IsChain table last (last ∷ []) = subst (λ n. IsChain table n (n ∷ [])) (sym is) ends in
@@ -54,7 +54,7 @@ linked_more table ids m last taken size is regular found linked =
     let mid = set table taken end_of_chain in
     let size_mid = length-set table taken end_of_chain in
     let size_new = length-set mid last taken in
-    let stay : StayBut (last ∷ taken ∷ []) table (set mid last taken) = record {
+    let stay : SameExceptAt (last ∷ taken ∷ []) table (set mid last taken) = record {
       size = omega (arith, size_mid, size_new);
       others = λ n inside none. get_or-set_other mid last n taken 0 (λ same. none 0 (omega arith) (sym same)) ∙ get_or-set_other table taken n end_of_chain 0 (λ same. none 1 (omega arith) (sym same));
     } in
@@ -71,7 +71,7 @@ behind : (ids : List ℕ) (taken : ℕ) → get_or (ids ++ taken ∷ []) (length
 behind ids taken = get_or-append_right ids (taken ∷ []) (length ids) 0 (omega arith) ∙ ap (λ k. get_or (taken ∷ []) k 0) (let none : length ids - length ids ≡ 0 = omega arith in none)
 
 -- what is none of the chain's numbers is none of those that were set
-beside_pair : (ids : List ℕ) (last : Option ℕ) (taken : ℕ) → IsLast ids last → AreAmong (ids ++ taken ∷ []) (linked_pair last taken)
+beside_pair : (ids : List ℕ) (last : Option ℕ) (taken : ℕ) → IsLast ids last → AreSubsetOf (ids ++ taken ∷ []) (linked_pair last taken)
 beside_pair ids None taken none n apart zero below same = let size = length-append ids (taken ∷ []) in apart (length ids) (omega (arith, size)) (behind ids taken ∙ same)
 beside_pair ids None taken none n apart (suc k) below same = absurd (omega (arith, below))
 beside_pair ids (Some last) taken (some, is) n apart zero below same =
@@ -81,8 +81,8 @@ beside_pair ids (Some last) taken (some, is) n apart (suc zero) below same = let
 beside_pair ids (Some last) taken (some, is) n apart (suc (suc k)) below same = absurd (omega (arith, below))
 
 -- the chain with it
-pub linked_with : (table ids : List ℕ) (last : Option ℕ) (taken : ℕ) → IsLast ids last → taken ≤ greatest_regular → slice_get table taken ≡ Some free → IsLinked table ids
-    → IsLinked (linked_behind table last taken) (ids ++ taken ∷ []) × AreAmong (ids ++ taken ∷ []) (linked_pair last taken)
+pub linked_with : (table ids : List ℕ) (last : Option ℕ) (taken : ℕ) → IsLast ids last → taken ≤ greatest_regular → slice_get table taken ≡ Some free → IsChainInTable table ids
+    → IsChainInTable (linked_behind table last taken) (ids ++ taken ∷ []) × AreSubsetOf (ids ++ taken ∷ []) (linked_pair last taken)
 linked_with table ids None taken none regular found linked = (linked_first table ids taken none regular (slice_get_within table taken free found), beside_pair ids None taken none)
 linked_with table ids (Some last) taken (some, is) regular found linked =
     (linked_more table ids (length ids - 1) last taken (omega (arith, some)) is regular found linked, beside_pair ids (Some last) taken (some, is))
@@ -92,6 +92,6 @@ to_last ids now None same h = ap length (sym same) ∙ h
 to_last ids now (Some l) same h = (subst (λ x. 0 < length x) same h.0, h.1 ∙ ap (λ x. get_or x (length x - 1) 0) same)
 
 -- so the table has a number for it
-pub has_last : (table ids : List ℕ) (last : Option ℕ) → IsLast ids last → IsLinked table ids → HasNumber table last
+pub has_last : (table ids : List ℕ) (last : Option ℕ) → IsLast ids last → IsChainInTable table ids → HasNumber table last
 has_last table ids None none linked = tt
 has_last table ids (Some l) (some, is) linked = subst (λ n. n < length table) (sym is) (last_there table ids (length ids - 1) (omega (arith, some)) linked)

@@ -9,25 +9,25 @@ use Rattle.cfb_medium.specs.declared.error.Error.{Error}
 use Rattle.cfb_medium.specs.declared.medium.ReadMedium.{Ghosts}
 use Rattle.cfb_medium.specs.Versions.{sector_len, stream_len_mask}
 use Rattle.cfb_sectors.specs.Sectors.{end_of_chain, free, greatest_regular, joined, sector, Chain as IsChain}
-use Rattle.cfb_chains.specs.Changes.{AreNoneOf, IsFreeIn, IsNoneOf, StayBut}
-use Rattle.cfb_chains.specs.Grown.{IsLinked}
+use Rattle.cfb_chains.specs.Changes.{AreDisjoint, IsFreeIn, IsNotIn, SameExceptAt}
+use Rattle.cfb_chains.specs.Grown.{IsChainInTable}
 use Rattle.cfb_chains.specs.LinkViews.{links_version}
-use Rattle.cfb_chains.specs.Owned.{Owned, Stays}
+use Rattle.cfb_chains.specs.Owned.{OwnDisjointChains, KeepsOwnedSectors}
 use Rattle.cfb_chains.proofs.Beside.{free_then, none_first}
 use Rattle.cfb_chains.proofs.ChainGrowing.{in_use}
-use Rattle.cfb_fat.specs.Calls.{FatAnswers}
+use Rattle.cfb_fat.specs.Calls.{FatErrorContract}
 use Rattle.cfb_fat.specs.Keeping.{rests_cause}
-use Rattle.cfb_fat.specs.Resting.{all_rest_then}
+use Rattle.cfb_fat.specs.OnlyReads.{all_rest_then}
 use Rattle.cfb_fat.specs.Seeing.{seen_of}
-use Rattle.cfb_fat.specs.Tables.{bytes_of, difat_sectors_of, fat_of, fat_sectors_of, is_honest, tables_of, version_of, AllRests}
+use Rattle.cfb_fat.specs.Tables.{bytes_of, difat_sectors_of, fat_of, fat_sectors_of, is_honest, tables_of, version_of, OnlyReadsAllocator}
 use Rattle.cfb_fat.specs.declared.allocator.Allocator.{Allocator}
 use Rattle.cfb_fat.proofs.Joining.{all_append}
 use Rattle.cfb_tree.specs.Directory.{Entry}
 use Rattle.cfb_directory.specs.Views as directory
-use Rattle.cfb_mini.specs.Changing.{mini_seen, CoversStream, Extends, GrowsMiniFat, GrowsMiniStream, HasOwners, LacksOne, Lengthens, TellsStream}
+use Rattle.cfb_mini.specs.Changing.{mini_seen, CoversStream, AppendsFreeMiniSector, GrowsMiniFat, GrowsMiniStream, HasUniqueOwners, LacksOne, AppendsMiniSectors, RootHasMiniStream}
 use Rattle.cfb_mini.specs.FatGrowth.{LacksMore}
 use Rattle.cfb_mini.specs.Strays.{LeavesNoStrays}
-use Rattle.cfb_mini.specs.Views.{allocator_of, directory_of, mini_fat_ids, mini_fat_of, mini_stream_ids, mini_stream_len, mini_stream_of, IsMini, MiniRests}
+use Rattle.cfb_mini.specs.Views.{allocator_of, directory_of, mini_fat_ids, mini_fat_of, mini_stream_ids, mini_stream_len, mini_stream_of, MiniMatchesBytes, OnlyReadsMini}
 use Rattle.cfb_mini.specs.declared.mini_allocator.MiniAllocator.{MiniAllocator}
 use Rattle.cfb_mini.proofs.Entries.{content_len}
 use Rattle.cfb_mini.proofs.Keeping.{pick, pick_mine, pick_other}
@@ -44,12 +44,12 @@ chain_stays : (old new : List ℕ) → length old ≤ length new → ((k : ℕ) 
 chain_stays old new longer same start [] is = is
 chain_stays old new longer same start (x ∷ ids) (is, regular, next, found, rest) = (is, regular, next, entry_stays old new start next longer same found, chain_stays old new longer same next ids rest)
 
-linked_appended : (old new more ids : List ℕ) → new ≡ old ++ more → IsLinked old ids → IsLinked new ids
+linked_appended : (old new more ids : List ℕ) → new ≡ old ++ more → IsChainInTable old ids → IsChainInTable new ids
 linked_appended old new more ids is linked =
     let size = ap length is ∙ length-append old more in
     chain_stays old new (omega (arith, size)) (λ k below. ap (λ l. get_or l k 0) is ∙ get_or_append_left old more 0 k below) (slice_index_or ids 0 end_of_chain) ids linked
 
-stay_appended : (entries a b c more : List ℕ) → c ≡ b ++ more → StayBut entries a b → StayBut entries a c
+stay_appended : (entries a b c more : List ℕ) → c ≡ b ++ more → SameExceptAt entries a b → SameExceptAt entries a c
 stay_appended entries a b c more is h =
     let size = ap length is ∙ length-append b more in
     let was = h.size in
@@ -76,16 +76,16 @@ all_less m n [] less h = tt
 all_less m n (x ∷ xs) less h = (let p = h.0 in omega (arith, p, less), all_less m n xs less h.1)
 
 -- what is free in a table that was changed at the chain's entries alone was free
-was_free : (a b mid : List ℕ) (x : ℕ) → StayBut mid a b → IsLinked b mid → slice_get b x ≡ Some free → IsFreeIn a x
+was_free : (a b mid : List ℕ) (x : ℕ) → SameExceptAt mid a b → IsChainInTable b mid → slice_get b x ≡ Some free → IsFreeIn a x
 was_free a b mid x stays linked found = ⊎_elim
     (λ past. inr past.1)
     (λ below. inl (slice_get-get_or a x 0 below.1 ∙ ap Some (sym (stays.others x below.1 (in_use b (slice_index_or mid 0 end_of_chain) mid x linked (inl found))) ∙ get_or_from_slice_get b x free 0 found)))
     (leb_tells (length a) x)
 
-was_loose : (a b mid : List ℕ) (x : ℕ) → StayBut mid a b → IsLinked b mid → IsFreeIn b x → IsFreeIn a x
+was_loose : (a b mid : List ℕ) (x : ℕ) → SameExceptAt mid a b → IsChainInTable b mid → IsFreeIn b x → IsFreeIn a x
 was_loose a b mid x stays linked loose = ⊎_elim (λ found. was_free a b mid x stays linked found) (λ past. inr (let longer = stays.size in omega (arith, past, longer))) loose
 
-were_free_both : (a b mid taken more : List ℕ) → StayBut mid a b → IsLinked b mid → AllByRecursion (IsFreeIn a) taken → AllByRecursion (IsFreeIn b) more → AllByRecursion (IsFreeIn a) (taken ++ more)
+were_free_both : (a b mid taken more : List ℕ) → SameExceptAt mid a b → IsChainInTable b mid → AllByRecursion (IsFreeIn a) taken → AllByRecursion (IsFreeIn b) more → AllByRecursion (IsFreeIn a) (taken ++ more)
 were_free_both a b mid taken more stays linked = free_then a b taken more (λ n. was_loose a b mid n stays linked)
 
 pub all_both : (P : ℕ → Type 0) (xs ys : List ℕ) → AllByRecursion P xs → AllByRecursion P ys → AllByRecursion P (xs ++ ys)
@@ -93,11 +93,11 @@ all_both P [] ys h k = k
 all_both P (x ∷ xs) ys h k = (h.0, all_both P xs ys h.1 k)
 
 -- the same owners
-owned_same : (table tables : List ℕ) (own then : ℕ → List ℕ) → ((k : ℕ) → then k ≡ own k) → Owned table tables own → Owned table tables then
+owned_same : (table tables : List ℕ) (own then : ℕ → List ℕ) → ((k : ℕ) → then k ≡ own k) → OwnDisjointChains table tables own → OwnDisjointChains table tables then
 owned_same table tables own then same h = record {
-  linked = λ k. subst (IsLinked table) (sym (same k)) (h.linked k);
-  apart = λ k l differ. subst (λ x. AreNoneOf x (then l)) (sym (same k)) (subst (AreNoneOf (own k)) (sym (same l)) (h.apart k l differ));
-  beside = λ k. subst (AreNoneOf tables) (sym (same k)) (h.beside k);
+  linked = λ k. subst (IsChainInTable table) (sym (same k)) (h.linked k);
+  apart = λ k l differ. subst (λ x. AreDisjoint x (then l)) (sym (same k)) (subst (AreDisjoint (own k)) (sym (same l)) (h.apart k l differ));
+  beside = λ k. subst (AreDisjoint tables) (sym (same k)) (h.beside k);
   marked = h.marked;
 }
 
@@ -134,7 +134,7 @@ module _ {F : Type 0} {g : Ghosts F} where
       (eqb_tells k 2))
       (eqb_tells k 1)
 
-  owners_same : (it : MiniAllocator F g) (own then : ℕ → List ℕ) → ((k : ℕ) → then k ≡ own k) → HasOwners it own → HasOwners it then
+  owners_same : (it : MiniAllocator F g) (own then : ℕ → List ℕ) → ((k : ℕ) → then k ≡ own k) → HasUniqueOwners it own → HasUniqueOwners it then
   owners_same it own then same h = record {
     honest = h.honest;
     memory = h.memory;
@@ -145,21 +145,21 @@ module _ {F : Type 0} {g : Ghosts F} where
   }
 
   -- the mini stream's bytes are as many as its sectors have
-  pub stream_size : (it : MiniAllocator F g) (own : ℕ → List ℕ) → HasOwners it own → length (mini_stream_of it) ≡ mini_stream_len it
+  pub stream_size : (it : MiniAllocator F g) (own : ℕ → List ℕ) → HasUniqueOwners it own → length (mini_stream_of it) ≡ mini_stream_len it
   stream_size it own h = content_len (allocator_of it) it.mini_fat.stream h.memory.over.stream_version
 
-  stays_same : (it : Allocator F g) (ids : List ℕ) → IsLinked (fat_of it) ids → AreNoneOf (tables_of it) ids → Stays (sector (version_of it)) (seen_of it) (seen_of it) ids
+  stays_same : (it : Allocator F g) (ids : List ℕ) → IsChainInTable (fat_of it) ids → AreDisjoint (tables_of it) ids → KeepsOwnedSectors (sector (version_of it)) (seen_of it) (seen_of it) ids
   unfolding seen_of
   stays_same it ids linked beside = record { linked = linked; beside = beside; bytes = refl }
 
-  stays_then : (a b c : Allocator F g) (ids now : List ℕ) → version_of b ≡ version_of a → now ≡ ids → Stays (sector (version_of a)) (seen_of a) (seen_of b) ids → Stays (sector (version_of b)) (seen_of b) (seen_of c) now → Stays (sector (version_of a)) (seen_of a) (seen_of c) ids
+  stays_then : (a b c : Allocator F g) (ids now : List ℕ) → version_of b ≡ version_of a → now ≡ ids → KeepsOwnedSectors (sector (version_of a)) (seen_of a) (seen_of b) ids → KeepsOwnedSectors (sector (version_of b)) (seen_of b) (seen_of c) now → KeepsOwnedSectors (sector (version_of a)) (seen_of a) (seen_of c) ids
   unfolding seen_of
   stays_then a b c ids now version same h k =
-      let k' : Stays (sector (version_of a)) (seen_of b) (seen_of c) ids = subst (λ l. Stays (sector (version_of a)) (seen_of b) (seen_of c) l) same (subst (λ v. Stays (sector v) (seen_of b) (seen_of c) now) version k) in
+      let k' : KeepsOwnedSectors (sector (version_of a)) (seen_of b) (seen_of c) ids = subst (λ l. KeepsOwnedSectors (sector (version_of a)) (seen_of b) (seen_of c) l) same (subst (λ v. KeepsOwnedSectors (sector v) (seen_of b) (seen_of c) now) version k) in
       record { linked = k'.linked; beside = k'.beside; bytes = k'.bytes ∙ h.bytes }
 
   -- nothing was done yet
-  pub lengthens_begun : (it : MiniAllocator F g) (minis : List ℕ) (own : ℕ → List ℕ) → HasOwners it own → IsLinked (mini_fat_of it) minis → Lengthens it it minis minis own
+  pub lengthens_begun : (it : MiniAllocator F g) (minis : List ℕ) (own : ℕ → List ℕ) → HasUniqueOwners it own → IsChainInTable (mini_fat_of it) minis → AppendsMiniSectors it it minis minis own
   lengthens_begun it minis own h linked = record {
     taken = [];
     minis_are = sym (append-nil minis);
@@ -178,14 +178,14 @@ module _ {F : Type 0} {g : Ghosts F} where
   }
 
   -- who owns what then
-  pub lengthened_owners : (a b : MiniAllocator F g) (minis mid : List ℕ) (own : ℕ → List ℕ) → Lengthens a b minis mid own → HasOwners b (own_now b own)
+  pub lengthened_owners : (a b : MiniAllocator F g) (minis mid : List ℕ) (own : ℕ → List ℕ) → AppendsMiniSectors a b minis mid own → HasUniqueOwners b (own_now b own)
   lengthened_owners a b minis mid own h = h.owners (own_now b own) (now_fat b own) (now_stream b own) (now_other b own)
 
   -- and which sectors are stray
-  pub lengthened_strays : (a b : MiniAllocator F g) (minis mid : List ℕ) (own : ℕ → List ℕ) → Lengthens a b minis mid own → LeavesNoStrays (allocator_of a) (allocator_of b) own (own_now b own)
+  pub lengthened_strays : (a b : MiniAllocator F g) (minis mid : List ℕ) (own : ℕ → List ℕ) → AppendsMiniSectors a b minis mid own → LeavesNoStrays (allocator_of a) (allocator_of b) own (own_now b own)
   lengthened_strays a b minis mid own h = h.strays (own_now b own) (now_fat b own) (now_stream b own) (now_other b own)
 
-  tells_kept : (a b c : MiniAllocator F g) → directory.entries_held (directory_of c) ≡ directory.entries_held (directory_of b) → mini_stream_ids c ≡ mini_stream_ids b → mini_stream_len c ≡ mini_stream_len b → TellsStream a b → TellsStream a c
+  tells_kept : (a b c : MiniAllocator F g) → directory.entries_held (directory_of c) ≡ directory.entries_held (directory_of b) → mini_stream_ids c ≡ mini_stream_ids b → mini_stream_len c ≡ mini_stream_len b → RootHasMiniStream a b → RootHasMiniStream a c
   tells_kept a b c entries ids len h = ⊎_elim
       (λ same. inl (entries ∙ same.0, ids ∙ same.1))
       (λ told. inr (λ e found. entries ∙ told e found
@@ -194,7 +194,7 @@ module _ {F : Type 0} {g : Ghosts F} where
       h
 
   -- a mini sector was taken in
-  pub lengthens_by_one : (a b c : MiniAllocator F g) (minis mid later : List ℕ) (own : ℕ → List ℕ) → version_of (allocator_of b) ≡ version_of (allocator_of a) → Lengthens a b minis mid own → Extends b c mid later (own_now b own) → Lengthens a c minis later own
+  pub lengthens_by_one : (a b c : MiniAllocator F g) (minis mid later : List ℕ) (own : ℕ → List ℕ) → version_of (allocator_of b) ≡ version_of (allocator_of a) → AppendsMiniSectors a b minis mid own → AppendsFreeMiniSector b c mid later (own_now b own) → AppendsMiniSectors a c minis later own
   unfolding mini_seen
   lengthens_by_one a b c minis mid later own version h k =
       let x = k.taken in
@@ -214,11 +214,11 @@ module _ {F : Type 0} {g : Ghosts F} where
         numbers = record {
           size = omega (arith, mid_size, new_size);
           others = λ n below none.
-              let apart : IsNoneOf (mid ++ x ∷ []) n = subst (λ l. IsNoneOf l n) k.minis_are none in
+              let apart : IsNotIn (mid ++ x ∷ []) n = subst (λ l. IsNotIn l n) k.minis_are none in
               leaves.entries n (omega (arith, below, mid_size)) apart ∙ h.numbers.others n below (none_first mid (x ∷ []) n apart);
         };
         unused = λ n past below none.
-            let apart : IsNoneOf (mid ++ x ∷ []) n = subst (λ l. IsNoneOf l n) k.minis_are none in
+            let apart : IsNotIn (mid ++ x ∷ []) n = subst (λ l. IsNotIn l n) k.minis_are none in
             ⊎_elim
             (λ behind. absurd ((leaves.behind n behind.1 below apart).0 (λ i inside. absurd (omega (arith, inside)))))
             (λ before. leaves.entries n before.1 apart ∙ h.unused n past before.1 (none_first mid (x ∷ []) n apart))
@@ -235,7 +235,7 @@ module _ {F : Type 0} {g : Ghosts F} where
       }
 
   -- the mini FAT took in a sector
-  pub lengthens_by_fat : (a b c : MiniAllocator F g) (minis mid : List ℕ) (own : ℕ → List ℕ) → version_of (allocator_of b) ≡ version_of (allocator_of a) → Lengthens a b minis mid own → GrowsMiniFat b c (own_now b own) → Lengthens a c minis mid own
+  pub lengthens_by_fat : (a b c : MiniAllocator F g) (minis mid : List ℕ) (own : ℕ → List ℕ) → version_of (allocator_of b) ≡ version_of (allocator_of a) → AppendsMiniSectors a b minis mid own → GrowsMiniFat b c (own_now b own) → AppendsMiniSectors a c minis mid own
   lengthens_by_fat a b c minis mid own version h k =
       let mine = own_now b own in
       let then' = pick mine 1 (mini_fat_ids c) in
@@ -273,7 +273,7 @@ module _ {F : Type 0} {g : Ghosts F} where
   -- the root's entry tells of the mini stream, whether or not it did before
   told_anew : (a b c : MiniAllocator F g)
       → ((e : Entry) → slice_get (directory.entries_held (directory_of b)) 0 ≡ Some e → directory.entries_held (directory_of c) ≡ set (directory.entries_held (directory_of b)) 0 (record e { start = slice_index_or (mini_stream_ids c) 0 end_of_chain; size = mini_stream_len c }))
-      → TellsStream a b → TellsStream a c
+      → RootHasMiniStream a b → RootHasMiniStream a c
   told_anew a b c root h = ⊎_elim
       (λ same. inr (λ e found. root e (ap (λ l. slice_get l 0) same.0 ∙ found) ∙ ap (λ l. set l 0 (record e { start = slice_index_or (mini_stream_ids c) 0 end_of_chain; size = mini_stream_len c })) same.0))
       (λ told. inr (λ e found.
@@ -285,7 +285,7 @@ module _ {F : Type 0} {g : Ghosts F} where
       h
 
   -- the mini stream did
-  pub lengthens_by_stream : (a b c : MiniAllocator F g) (minis mid : List ℕ) (own : ℕ → List ℕ) → version_of (allocator_of b) ≡ version_of (allocator_of a) → Lengthens a b minis mid own → GrowsMiniStream b c (own_now b own) → Lengthens a c minis mid own
+  pub lengthens_by_stream : (a b c : MiniAllocator F g) (minis mid : List ℕ) (own : ℕ → List ℕ) → version_of (allocator_of b) ≡ version_of (allocator_of a) → AppendsMiniSectors a b minis mid own → GrowsMiniStream b c (own_now b own) → AppendsMiniSectors a c minis mid own
   lengthens_by_stream a b c minis mid own version h k =
       let mine = own_now b own in
       let then' = pick mine 2 (mini_stream_ids c) in
@@ -299,9 +299,9 @@ module _ {F : Type 0} {g : Ghosts F} where
         minis_are = h.minis_are;
         were_free = h.were_free;
         inside = all_less (mini_stream_len b) (mini_stream_len c) h.taken longer h.inside;
-        linked = subst (λ l. IsLinked l mid) (sym k.mini_fat) h.linked;
-        numbers = subst (StayBut mid (mini_fat_of a)) (sym k.mini_fat) h.numbers;
-        unused = subst (λ l. (n : ℕ) → length (mini_fat_of a) ≤ n → n < length l → IsNoneOf mid n → slice_index l n ≡ free) (sym k.mini_fat) h.unused;
+        linked = subst (λ l. IsChainInTable l mid) (sym k.mini_fat) h.linked;
+        numbers = subst (SameExceptAt mid (mini_fat_of a)) (sym k.mini_fat) h.numbers;
+        unused = subst (λ l. (n : ℕ) → length (mini_fat_of a) ≤ n → n < length l → IsNotIn mid n → slice_index l n ≡ free) (sym k.mini_fat) h.unused;
         zeros = h.zeros + more;
         stream = k.stream ∙ ap (λ l. l ++ replicate more 0) h.stream ∙ append_assoc (mini_stream_of a) (replicate h.zeros 0) (replicate more 0) ∙ ap (λ l. mini_stream_of a ++ l) (replicate-append-replicate h.zeros more 0);
         owners = λ then is_fat is_stream others. k.owners then is_stream (λ n off. ⊎_elim
@@ -320,7 +320,7 @@ module _ {F : Type 0} {g : Ghosts F} where
       }
 
   -- the root's entry was set
-  pub lengthens_by_cover : (a b c : MiniAllocator F g) (minis mid : List ℕ) (own : ℕ → List ℕ) → version_of (allocator_of b) ≡ version_of (allocator_of a) → Lengthens a b minis mid own → CoversStream b c (own_now b own) → Lengthens a c minis mid own
+  pub lengthens_by_cover : (a b c : MiniAllocator F g) (minis mid : List ℕ) (own : ℕ → List ℕ) → version_of (allocator_of b) ≡ version_of (allocator_of a) → AppendsMiniSectors a b minis mid own → CoversStream b c (own_now b own) → AppendsMiniSectors a c minis mid own
   lengthens_by_cover a b c minis mid own version h k =
       let mine = own_now b own in
       let new = k.owners in
@@ -332,9 +332,9 @@ module _ {F : Type 0} {g : Ghosts F} where
         minis_are = h.minis_are;
         were_free = h.were_free;
         inside = subst (λ m. AllByRecursion (λ n. 64 * n + 64 ≤ m) h.taken) (sym len) h.inside;
-        linked = subst (λ l. IsLinked l mid) (sym k.mini_fat) h.linked;
-        numbers = subst (StayBut mid (mini_fat_of a)) (sym k.mini_fat) h.numbers;
-        unused = subst (λ l. (n : ℕ) → length (mini_fat_of a) ≤ n → n < length l → IsNoneOf mid n → slice_index l n ≡ free) (sym k.mini_fat) h.unused;
+        linked = subst (λ l. IsChainInTable l mid) (sym k.mini_fat) h.linked;
+        numbers = subst (SameExceptAt mid (mini_fat_of a)) (sym k.mini_fat) h.numbers;
+        unused = subst (λ l. (n : ℕ) → length (mini_fat_of a) ≤ n → n < length l → IsNotIn mid n → slice_index l n ≡ free) (sym k.mini_fat) h.unused;
         zeros = h.zeros;
         stream = k.stream ∙ h.stream;
         owners = λ then is_fat is_stream others. owners_same c mine then (now_same b own then (is_fat ∙ fat) (is_stream ∙ ids) others) new;
@@ -345,32 +345,32 @@ module _ {F : Type 0} {g : Ghosts F} where
             lengthened_strays a b minis mid own h n (k.strays n (stray_same (fat_of (allocator_of c)) (tables_of (allocator_of c)) mine then (now_same b own then (is_fat ∙ fat) (is_stream ∙ ids) others) n s));
       }
 
-  tables_rest : (b c : Allocator F g) → AllRests b c → tables_of c ≡ tables_of b
+  tables_rest : (b c : Allocator F g) → OnlyReadsAllocator b c → tables_of c ≡ tables_of b
   tables_rest b c rests = ap (λ l. l ++ fat_sectors_of c) rests.difat_sectors ∙ ap (λ l. difat_sectors_of b ++ l) rests.fat_sectors
 
-  stays_rest : (a b c : Allocator F g) (ids : List ℕ) → version_of b ≡ version_of a → IsTrue (is_honest b) → AllRests b c → Stays (sector (version_of a)) (seen_of a) (seen_of b) ids → Stays (sector (version_of a)) (seen_of a) (seen_of c) ids
+  stays_rest : (a b c : Allocator F g) (ids : List ℕ) → version_of b ≡ version_of a → IsTrue (is_honest b) → OnlyReadsAllocator b c → KeepsOwnedSectors (sector (version_of a)) (seen_of a) (seen_of b) ids → KeepsOwnedSectors (sector (version_of a)) (seen_of a) (seen_of c) ids
   unfolding seen_of
   stays_rest a b c ids version honest rests h = record {
-    linked = subst (λ l. IsLinked l ids) (sym rests.fat) h.linked;
-    beside = subst (λ l. AreNoneOf l ids) (sym (tables_rest b c rests)) h.beside;
+    linked = subst (λ l. IsChainInTable l ids) (sym rests.fat) h.linked;
+    beside = subst (λ l. AreDisjoint l ids) (sym (tables_rest b c rests)) h.beside;
     bytes = ap (λ l. joined (version_of a) l ids) (rests.sectors.bytes honest) ∙ h.bytes;
   }
 
   -- owners over reads
-  pub owners_rest : (b c : MiniAllocator F g) (own : ℕ → List ℕ) → MiniRests b c → HasOwners b own → HasOwners c own
+  pub owners_rest : (b c : MiniAllocator F g) (own : ℕ → List ℕ) → OnlyReadsMini b c → HasUniqueOwners b own → HasUniqueOwners c own
   owners_rest b c own rests h =
       let layer = rests.directory.allocator in
       record {
         honest = subst IsTrue (sym layer.sectors.honest) h.honest;
         memory = rests.kept h.memory;
-        owned = subst (λ l. Owned (fat_of (allocator_of c)) l own) (sym (tables_rest (allocator_of b) (allocator_of c) layer)) (subst (λ l. Owned l (tables_of (allocator_of b)) own) (sym layer.fat) h.owned);
+        owned = subst (λ l. OwnDisjointChains (fat_of (allocator_of c)) l own) (sym (tables_rest (allocator_of b) (allocator_of c) layer)) (subst (λ l. OwnDisjointChains l (tables_of (allocator_of b)) own) (sym layer.fat) h.owned);
         directory = h.directory ∙ sym rests.directory.ids;
         mini_fat = h.mini_fat ∙ sym rests.mini_fat_ids;
         mini_stream = h.mini_stream ∙ sym rests.mini_stream_ids;
       }
 
   -- only reads happened
-  pub lengthens_rest : (a b c : MiniAllocator F g) (minis mid : List ℕ) (own : ℕ → List ℕ) → version_of (allocator_of b) ≡ version_of (allocator_of a) → Lengthens a b minis mid own → MiniRests b c → Lengthens a c minis mid own
+  pub lengthens_rest : (a b c : MiniAllocator F g) (minis mid : List ℕ) (own : ℕ → List ℕ) → version_of (allocator_of b) ≡ version_of (allocator_of a) → AppendsMiniSectors a b minis mid own → OnlyReadsMini b c → AppendsMiniSectors a c minis mid own
   lengthens_rest a b c minis mid own version h rests =
       let was = lengthened_owners a b minis mid own h in
       let layer = rests.directory.allocator in
@@ -384,9 +384,9 @@ module _ {F : Type 0} {g : Ghosts F} where
         minis_are = h.minis_are;
         were_free = h.were_free;
         inside = subst (λ m. AllByRecursion (λ n. 64 * n + 64 ≤ m) h.taken) (sym len) h.inside;
-        linked = subst (λ l. IsLinked l mid) (sym rests.mini_fat) h.linked;
-        numbers = subst (StayBut mid (mini_fat_of a)) (sym rests.mini_fat) h.numbers;
-        unused = subst (λ l. (n : ℕ) → length (mini_fat_of a) ≤ n → n < length l → IsNoneOf mid n → slice_index l n ≡ free) (sym rests.mini_fat) h.unused;
+        linked = subst (λ l. IsChainInTable l mid) (sym rests.mini_fat) h.linked;
+        numbers = subst (SameExceptAt mid (mini_fat_of a)) (sym rests.mini_fat) h.numbers;
+        unused = subst (λ l. (n : ℕ) → length (mini_fat_of a) ≤ n → n < length l → IsNotIn mid n → slice_index l n ≡ free) (sym rests.mini_fat) h.unused;
         zeros = h.zeros;
         stream = same ∙ h.stream;
         owners = λ then is_fat is_stream others. owners_same c (own_now b own) then (now_same b own then (is_fat ∙ rests.mini_fat_ids) (is_stream ∙ rests.mini_stream_ids) others) new;
@@ -399,7 +399,7 @@ module _ {F : Type 0} {g : Ghosts F} where
       }
 
   -- reads one after the other
-  pub mini_rests_then : (a b c : MiniAllocator F g) → MiniRests a b → MiniRests b c → MiniRests a c
+  pub mini_rests_then : (a b c : MiniAllocator F g) → OnlyReadsMini a b → OnlyReadsMini b c → OnlyReadsMini a c
   mini_rests_then a b c h k = record {
     directory = record {
       allocator = all_rest_then (allocator_of a) (allocator_of b) (allocator_of c) h.directory.allocator k.directory.allocator;
@@ -414,7 +414,7 @@ module _ {F : Type 0} {g : Ghosts F} where
   }
 
   -- what a call answers, told from before reads
-  pub answers_after : {T : Type 0} (P : Error → Type 0) (r : Result T Error) (a b c : Allocator F g) → AllRests a b → FatAnswers P r b c → FatAnswers P r a c
+  pub answers_after : {T : Type 0} (P : Error → Type 0) (r : Result T Error) (a b c : Allocator F g) → OnlyReadsAllocator a b → FatErrorContract P r b c → FatErrorContract P r a c
   answers_after P (Ok x) a b c rests k = record {
     live = (sym rests.sectors.failed ∙ k.live.0, k.live.1);
     failed = λ was. absurd (let wrong = (k.failed (rests.sectors.failed ∙ was)).0 in cc);
@@ -431,15 +431,15 @@ module _ {F : Type 0} {g : Ghosts F} where
   }
 
   -- as many sectors have as many bytes
-  pub len_same : (b c : MiniAllocator F g) → version_of (allocator_of c) ≡ version_of (allocator_of b) → IsMini b → IsMini c → mini_stream_ids c ≡ mini_stream_ids b → mini_stream_len c ≡ mini_stream_len b
+  pub len_same : (b c : MiniAllocator F g) → version_of (allocator_of c) ≡ version_of (allocator_of b) → MiniMatchesBytes b → MiniMatchesBytes c → mini_stream_ids c ≡ mini_stream_ids b → mini_stream_len c ≡ mini_stream_len b
   len_same b c version is now ids =
       ap (λ v. length (mini_stream_ids c) * sector_len v) (now.over.stream_version ∙ version ∙ sym is.over.stream_version) ∙ ap (λ l. length l * sector_len (links_version b.mini_fat.stream)) ids
 
-  lacks_more_rest : (b c : Allocator F g) (n m : ℕ) → AllRests b c → m ≡ n → LacksMore c m → LacksMore b n
+  lacks_more_rest : (b c : Allocator F g) (n m : ℕ) → OnlyReadsAllocator b c → m ≡ n → LacksMore c m → LacksMore b n
   lacks_more_rest b c n m rests same = ⊎_elim (λ numbers. inl (subst (λ l. greatest_regular + 1 + count_by (λ entry. nat_eq entry free) l < length l + 1) rests.fat numbers)) (λ long. inr (omega (arith, long, same)))
 
   -- what is lacking after reads was lacking before
-  pub lacks_rest : (b c : MiniAllocator F g) → IsMini b → MiniRests b c → LacksOne c → LacksOne b
+  pub lacks_rest : (b c : MiniAllocator F g) → MiniMatchesBytes b → OnlyReadsMini b c → LacksOne c → LacksOne b
   lacks_rest b c is rests lacks =
       let layer = rests.directory.allocator in
       let ids = ap length rests.mini_stream_ids in
@@ -450,7 +450,7 @@ module _ {F : Type 0} {g : Ghosts F} where
       (λ rest. inr (⊎_elim (λ stream. inl (lacks_more_rest (allocator_of b) (allocator_of c) _ _ layer ids stream))
       (λ size. inr (subst (λ v. stream_len_mask v < mini_stream_len b + sector_len v) version (subst (λ n. stream_len_mask (version_of (allocator_of c)) < n + sector_len (version_of (allocator_of c))) len size))) rest)) lacks
 
-  tells_then : (a b c : MiniAllocator F g) → (mini_stream_ids c ≡ mini_stream_ids b → mini_stream_len c ≡ mini_stream_len b) → TellsStream a b → TellsStream b c → TellsStream a c
+  tells_then : (a b c : MiniAllocator F g) → (mini_stream_ids c ≡ mini_stream_ids b → mini_stream_len c ≡ mini_stream_len b) → RootHasMiniStream a b → RootHasMiniStream b c → RootHasMiniStream a c
   tells_then a b c len h k = ⊎_elim
       (λ same. tells_kept a b c same.0 same.1 (len same.1) h)
       (λ told. ⊎_elim
@@ -465,7 +465,7 @@ module _ {F : Type 0} {g : Ghosts F} where
       k
 
   -- two steps
-  pub lengthens_then : (a b c : MiniAllocator F g) (minis mid later : List ℕ) (own : ℕ → List ℕ) → version_of (allocator_of b) ≡ version_of (allocator_of a) → Lengthens a b minis mid own → Lengthens b c mid later (own_now b own) → version_of (allocator_of c) ≡ version_of (allocator_of b) → Lengthens a c minis later own
+  pub lengthens_then : (a b c : MiniAllocator F g) (minis mid later : List ℕ) (own : ℕ → List ℕ) → version_of (allocator_of b) ≡ version_of (allocator_of a) → AppendsMiniSectors a b minis mid own → AppendsMiniSectors b c mid later (own_now b own) → version_of (allocator_of c) ≡ version_of (allocator_of b) → AppendsMiniSectors a c minis later own
   lengthens_then a b c minis mid later own version h k next =
       let mid_size = h.numbers.size in
       let new_size = k.numbers.size in
@@ -481,11 +481,11 @@ module _ {F : Type 0} {g : Ghosts F} where
         linked = k.linked;
         numbers = record {
           size = omega (arith, mid_size, new_size);
-          others = λ n below none. k.numbers.others n (omega (arith, below, mid_size)) none ∙ h.numbers.others n below (none_first mid k.taken n (subst (λ l. IsNoneOf l n) k.minis_are none));
+          others = λ n below none. k.numbers.others n (omega (arith, below, mid_size)) none ∙ h.numbers.others n below (none_first mid k.taken n (subst (λ l. IsNotIn l n) k.minis_are none));
         };
         unused = λ n past below none. ⊎_elim
             (λ behind. k.unused n behind.1 below none)
-            (λ before. k.numbers.others n before.1 none ∙ h.unused n past before.1 (none_first mid k.taken n (subst (λ l. IsNoneOf l n) k.minis_are none)))
+            (λ before. k.numbers.others n before.1 none ∙ h.unused n past before.1 (none_first mid k.taken n (subst (λ l. IsNotIn l n) k.minis_are none)))
             (leb_tells (length (mini_fat_of b)) n);
         zeros = h.zeros + k.zeros;
         stream = k.stream ∙ ap (λ l. l ++ replicate k.zeros 0) h.stream ∙ append_assoc (mini_stream_of a) (replicate h.zeros 0) (replicate k.zeros 0) ∙ ap (λ l. mini_stream_of a ++ l) (replicate-append-replicate h.zeros k.zeros 0);
@@ -497,5 +497,5 @@ module _ {F : Type 0} {g : Ghosts F} where
       }
 
   -- the root's size was raised, or it was enough
-  pub lengthens_covered : (a b c : MiniAllocator F g) (minis mid : List ℕ) (own : ℕ → List ℕ) → version_of (allocator_of b) ≡ version_of (allocator_of a) → Lengthens a b minis mid own → MiniRests b c ⊎ CoversStream b c (own_now b own) → Lengthens a c minis mid own
+  pub lengthens_covered : (a b c : MiniAllocator F g) (minis mid : List ℕ) (own : ℕ → List ℕ) → version_of (allocator_of b) ≡ version_of (allocator_of a) → AppendsMiniSectors a b minis mid own → OnlyReadsMini b c ⊎ CoversStream b c (own_now b own) → AppendsMiniSectors a c minis mid own
   lengthens_covered a b c minis mid own version h did = ⊎_elim (λ rests. lengthens_rest a b c minis mid own version h rests) (λ covers. lengthens_by_cover a b c minis mid own version h covers) did

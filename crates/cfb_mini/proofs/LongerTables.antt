@@ -13,9 +13,9 @@ use Rattle.cfb_sectors.specs.Copies.{copies}
 use Rattle.cfb_sectors.specs.Initial.{initial}
 use Rattle.cfb_sectors.specs.Sectors.{end_of_chain, fat_in, free, joined, sector}
 use Rattle.cfb_sectors.specs.declared.initial.SectorInit.TheVariants.{Fat}
-use Rattle.cfb_chains.specs.Changes.{AreNoneOf}
+use Rattle.cfb_chains.specs.Changes.{AreDisjoint}
 use Rattle.cfb_chains.specs.LinkViews.{ids_of}
-use Rattle.cfb_chains.specs.Owned.{Leaves}
+use Rattle.cfb_chains.specs.Owned.{ChangesAtMost}
 use Rattle.cfb_chains.specs.Positions.{sectors_for}
 use Rattle.cfb_chains.proofs.ChainWriting.{length-joined}
 use Rattle.cfb_chains.proofs.Overwriting.{over_reaches}
@@ -23,14 +23,14 @@ use Rattle.cfb_chains.proofs.Owners.{chain_left, leaves_then, none_of_nothing}
 use Rattle.cfb_fat.specs.Seeing.{seen_of}
 use Rattle.cfb_fat.specs.Tables.{bytes_of, tables_of, version_of}
 use Rattle.cfb_fat.specs.declared.allocator.Allocator.{Allocator}
-use Rattle.cfb_fat.specs.Growing.{LacksNumbers}
+use Rattle.cfb_fat.specs.Growing.{LacksSectorNumbers}
 use Rattle.cfb_chains.specs.declared.links.Links.{Links}
 use Rattle.cfb_fat.proofs.FatEntries.{per}
 use Rattle.cfb_fat.proofs.Fresh.{fat_content, length-initial, whole}
 use Rattle.cfb_fat.proofs.Growth.{numbers_append}
 use Rattle.cfb_fat.proofs.TableWords.{header_word, word, word_other, word_written}
-use Rattle.cfb_owned.specs.Chains.{GoesOn, LacksSectors, Resizes}
-use Rattle.cfb_owned.proofs.Owning.{none_behind_all}
+use Rattle.cfb_chain_io.specs.ChainEffects.{KeepsFileInvariants, LacksSectors, Resizes}
+use Rattle.cfb_chain_io.proofs.Owning.{none_behind_all}
 use Rattle.cfb_mini.specs.FatGrowth.{mini_fat_words, GrowsTable, LacksMore, TellsMiniFat}
 use Rattle.cfb_mini.specs.NumberViews.{numbers_of}
 use Rattle.cfb_mini.specs.declared.mini_fat.MiniFat.{MiniFat}
@@ -61,8 +61,8 @@ numbers_longer v b ids count one =
     ∙ ap (λ l. fat_in v b ids ++ l) (fat_content v)
 
 module _ {F : Type 0} {g : Ghosts F} where
-  pub grows_is : (a m b : Allocator F g) (x y : MiniFat) (count : ℕ) → count ≡ length (ids_of x.links) + 1 → Resizes Fat count a m x.links y.links → length (ids_of y.links) ≡ count → GoesOn a m → GoesOn m b
-      → Leaves (sector (version_of m)) mini_fat_words [] (seen_of m) (seen_of b) → TellsMiniFat (bytes_of b) (ids_of y.links) → y.stream ≡ x.stream
+  pub grows_is : (a m b : Allocator F g) (x y : MiniFat) (count : ℕ) → count ≡ length (ids_of x.links) + 1 → Resizes Fat count a m x.links y.links → length (ids_of y.links) ≡ count → KeepsFileInvariants a m → KeepsFileInvariants m b
+      → ChangesAtMost (sector (version_of m)) mini_fat_words [] (seen_of m) (seen_of b) → TellsMiniFat (bytes_of b) (ids_of y.links) → y.stream ≡ x.stream
       → numbers_of y.numbers ≡ numbers_of x.numbers ++ replicate (sector_len (version_of a) / 4) free → GrowsTable a b x y
   unfolding seen_of
   grows_is a m b x y count is resized size goes then leaves told stream longer =
@@ -73,10 +73,10 @@ module _ {F : Type 0} {g : Ghosts F} where
       let kept : take count ids ≡ ids = take_all count ids (omega (arith, is)) in
       let sectors : later ≡ ids ++ more = resized.sectors ∙ ap (λ l. l ++ more) kept in
       let one : length more ≡ 1 = let sum = length-append ids more in let all = ap length sectors in omega (arith, sum, all, size, is) in
-      let wrote : Leaves (sector v) mini_fat_words [] (seen_of m) (seen_of b) = subst (λ u. Leaves (sector u) mini_fat_words [] (seen_of m) (seen_of b)) goes.version leaves in
+      let wrote : ChangesAtMost (sector v) mini_fat_words [] (seen_of m) (seen_of b) = subst (λ u. ChangesAtMost (sector u) mini_fat_words [] (seen_of m) (seen_of b)) goes.version leaves in
       let chain = resized.chain in
       let left = chain_left (sector v) mini_fat_words [] (seen_of m) (seen_of b) wrote (slice_index_or later 0 end_of_chain) later chain.has.linked (none_of_nothing later) chain.beside in
-      let both : Leaves (sector v) mini_fat_words ((ids ++ more) ++ []) (seen_of a) (seen_of b) = leaves_then (sector v) [] mini_fat_words (ids ++ more) [] (seen_of a) (seen_of m) (seen_of b) resized.becomes.leaves wrote in
+      let both : ChangesAtMost (sector v) mini_fat_words ((ids ++ more) ++ []) (seen_of a) (seen_of b) = leaves_then (sector v) [] mini_fat_words (ids ++ more) [] (seen_of a) (seen_of m) (seen_of b) resized.becomes.leaves wrote in
       let content : joined v (bytes_of b) later ≡ joined v (bytes_of a) ids ++ copies (length more) (initial Fat (sector_len v)) =
       left.2 ∙ ap (λ u. joined u (bytes_of m) later) (sym goes.version) ∙ resized.content ∙ ap (λ l. joined v (bytes_of a) l ++ copies (length more) (initial Fat (sector_len v))) kept in
       record {
@@ -87,9 +87,9 @@ module _ {F : Type 0} {g : Ghosts F} where
           beside = left.1;
         };
         becomes = record {
-          leaves = subst (λ l. Leaves (sector v) mini_fat_words l (seen_of a) (seen_of b)) (append-nil (ids ++ more)) both;
+          leaves = subst (λ l. ChangesAtMost (sector v) mini_fat_words l (seen_of a) (seen_of b)) (append-nil (ids ++ more)) both;
           were_free = resized.becomes.were_free;
-          spare = none_behind_all (tables_of b) ids more (subst (AreNoneOf (tables_of b)) sectors left.1);
+          spare = none_behind_all (tables_of b) ids more (subst (AreDisjoint (tables_of b)) sectors left.1);
           linked = left.0;
           among = resized.becomes.among;
         };
@@ -104,4 +104,4 @@ module _ {F : Type 0} {g : Ghosts F} where
   pub lacks_one : (it : Allocator F g) (links : Links) → LacksSectors it links (length (ids_of links) + 1) → LacksMore it (length (ids_of links))
   lacks_one it links lacks =
       let one : length (ids_of links) + 1 - length (ids_of links) ≡ 1 = omega arith in
-      ⊎_elim (λ few. inl (subst (LacksNumbers it) one few)) (λ long. inr (omega (arith, long))) lacks
+      ⊎_elim (λ few. inl (subst (LacksSectorNumbers it) one few)) (λ long. inr (omega (arith, long))) lacks

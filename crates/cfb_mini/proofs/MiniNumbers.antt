@@ -8,7 +8,7 @@ use Rattle.std.proofs.lemmas.Nat.{from_le_bytes-to_le_bytes_4}
 use Rattle.cfb_medium.specs.Bytes.{overwritten}
 use Rattle.cfb_medium.specs.Numbers.{numbers}
 use Rattle.cfb_sectors.specs.Sectors.{filled_part}
-use Rattle.cfb_chains.specs.Changes.{DifferAt, HaveEntry}
+use Rattle.cfb_chains.specs.Changes.{DifferOnlyAt, HaveEntry}
 use Rattle.cfb_chains.proofs.ChainWriting.{length_within}
 use Rattle.cfb_chains.proofs.Overwriting.{beside, written}
 use Rattle.cfb_fat.proofs.FatEntries.{get_number, length-numbers}
@@ -41,7 +41,7 @@ numbers_set c n x fits small =
     (eqb_tells m n))
 
 -- at most its own is changed then
-pub differ_set : (table now : List ℕ) (n x : ℕ) → now ≡ set table n x → DifferAt (n ∷ []) table now
+pub differ_set : (table now : List ℕ) (n x : ℕ) → now ≡ set table n x → DifferOnlyAt (n ∷ []) table now
 differ_set table now n x is = record {
   size = ap length is ∙ length-set table n x;
   others = λ m none. ap (λ l. get_or l m 0) is ∙ get_or-set_other table n m x 0 (λ same. none 0 (omega arith) (sym same));

@@ -2,9 +2,9 @@
 use Rattle.std.proofs.Common.{◌≡◌, ℕ, ◌+◌, ◌<◌, ◌≤◌, ◌⊎◌, inl, List, [], ◌∷◌, ◌++◌, length, refl, zero, ap, sym, subst, arith, ⊎_elim}
 use Rattle.std.specs.Prelude.{slice_get, Some}
 use Rattle.cfb_sectors.specs.Sectors.{filled_part, free}
-use Rattle.cfb_chains.specs.Changes.{AreAmong, DifferAt, IsNoneOf}
-use Rattle.cfb_chains.specs.Grown.{IsLinked}
-use Rattle.cfb_chains.specs.Owned.{AreBesideWords, Becomes, Leaves, Seen}
+use Rattle.cfb_chains.specs.Changes.{AreSubsetOf, DifferOnlyAt, IsNotIn}
+use Rattle.cfb_chains.specs.Grown.{IsChainInTable}
+use Rattle.cfb_chains.specs.Owned.{AreBesideWords, ReplacesChain, ChangesAtMost, SectorLayer}
 use Rattle.cfb_chains.proofs.Beside.{none_first}
 use Rattle.cfb_chains.proofs.ChainGrowing.{among_more}
 use Rattle.cfb_mini.specs.Minis.{all_words, mini_sector}
@@ -40,44 +40,44 @@ header_free old new place zero front beside = refl
 header_free old new place count front beside = absurd (nothing_beside place count (omega arith) front beside.1)
 
 -- at most these mini sectors changed, in their numbers or in their bytes
-leaves_of : (s t : Seen) (touched : List ℕ) → s.tables ≡ [] → t.tables ≡ [] → length s.bytes ≤ length t.bytes → DifferAt touched s.table t.table
-    → ((n : ℕ) → IsNoneOf touched n → mini_sector t.bytes n ≡ mini_sector s.bytes n) → Leaves mini_sector all_words touched s t
+leaves_of : (s t : SectorLayer) (touched : List ℕ) → s.tables ≡ [] → t.tables ≡ [] → length s.bytes ≤ length t.bytes → DifferOnlyAt touched s.table t.table
+    → ((n : ℕ) → IsNotIn touched n → mini_sector t.bytes n ≡ mini_sector s.bytes n) → ChangesAtMost mini_sector all_words touched s t
 leaves_of s t touched none_s none_t longer differ others = record {
   longer = longer;
   size = let same = differ.size in omega (arith, same);
   entries = λ n below none. differ.others n none;
   sectors = λ n below loose none. others n none;
-  apart = λ n below loose. subst (λ l. IsNoneOf l n) (sym none_t) (λ k inside same. absurd (omega (arith, inside)));
-  still = λ n loose. subst (λ l. IsNoneOf l n) (sym none_s) (λ k inside same. absurd (omega (arith, inside)));
+  apart = λ n below loose. subst (λ l. IsNotIn l n) (sym none_t) (λ k inside same. absurd (omega (arith, inside)));
+  still = λ n loose. subst (λ l. IsNotIn l n) (sym none_s) (λ k inside same. absurd (omega (arith, inside)));
   behind = λ n past below none. absurd (let same = differ.size in omega (arith, same, past, below));
   header = header_free s.bytes t.bytes;
 }
 
 -- a chain took in a free mini sector
-pub becomes_more : (s t : Seen) (minis later : List ℕ) (taken : ℕ) → s.tables ≡ [] → t.tables ≡ [] → t.bytes ≡ s.bytes → DifferAt (minis ++ taken ∷ []) s.table t.table → slice_get s.table taken ≡ Some free
-    → later ≡ minis ++ taken ∷ [] → IsLinked t.table later → Becomes mini_sector all_words minis (taken ∷ []) later s t
+pub becomes_more : (s t : SectorLayer) (minis later : List ℕ) (taken : ℕ) → s.tables ≡ [] → t.tables ≡ [] → t.bytes ≡ s.bytes → DifferOnlyAt (minis ++ taken ∷ []) s.table t.table → slice_get s.table taken ≡ Some free
+    → later ≡ minis ++ taken ∷ [] → IsChainInTable t.table later → ReplacesChain mini_sector all_words minis (taken ∷ []) later s t
 becomes_more s t minis later taken none_s none_t same differ found are linked = record {
   leaves = leaves_of s t (minis ++ taken ∷ []) none_s none_t (let size = ap length same in omega (arith, size)) differ (λ n none. ap (λ l. mini_sector l n) same);
   were_free = (inl found, tt);
-  spare = (subst (λ l. IsNoneOf l taken) (sym none_t) (λ k inside is. absurd (omega (arith, inside))), tt);
+  spare = (subst (λ l. IsNotIn l taken) (sym none_t) (λ k inside is. absurd (omega (arith, inside))), tt);
   linked = linked;
-  among = λ n none. subst (λ l. IsNoneOf l n) (sym are) none;
+  among = λ n none. subst (λ l. IsNotIn l n) (sym are) none;
 }
 
 -- mini sectors of a chain changed, in their numbers or in their bytes
-module _ (s t : Seen) (minis : List ℕ) (none_s : s.tables ≡ []) (none_t : t.tables ≡ []) (longer : length s.bytes ≤ length t.bytes) (differ : DifferAt minis s.table t.table)
-    (others : (n : ℕ) → IsNoneOf minis n → mini_sector t.bytes n ≡ mini_sector s.bytes n) where
-  mini_leaves : Leaves mini_sector all_words (minis ++ []) s t
+module _ (s t : SectorLayer) (minis : List ℕ) (none_s : s.tables ≡ []) (none_t : t.tables ≡ []) (longer : length s.bytes ≤ length t.bytes) (differ : DifferOnlyAt minis s.table t.table)
+    (others : (n : ℕ) → IsNotIn minis n → mini_sector t.bytes n ≡ mini_sector s.bytes n) where
+  mini_leaves : ChangesAtMost mini_sector all_words (minis ++ []) s t
   mini_leaves = leaves_of s t (minis ++ []) none_s none_t longer (record { size = differ.size; others = λ n none. differ.others n (none_first minis [] n none) }) (λ n none. others n (none_first minis [] n none))
 
   -- it has no mini sectors any more
-  pub becomes_none : Becomes mini_sector all_words minis [] [] s t
+  pub becomes_none : ReplacesChain mini_sector all_words minis [] [] s t
   becomes_none = record { leaves = mini_leaves; were_free = tt; spare = tt; linked = refl; among = λ n none k below same. absurd (omega (arith, below)) }
 
   -- it has those that it had
-  pub becomes_same : IsLinked t.table minis → Becomes mini_sector all_words minis [] minis s t
+  pub becomes_same : IsChainInTable t.table minis → ReplacesChain mini_sector all_words minis [] minis s t
   becomes_same linked = record { leaves = mini_leaves; were_free = tt; spare = tt; linked = linked; among = among_more minis [] minis (λ n none. none) }
 
   -- it has some that it had
-  pub becomes_fewer : (later : List ℕ) → AreAmong minis later → IsLinked t.table later → Becomes mini_sector all_words minis [] later s t
+  pub becomes_fewer : (later : List ℕ) → AreSubsetOf minis later → IsChainInTable t.table later → ReplacesChain mini_sector all_words minis [] later s t
   becomes_fewer later among linked = record { leaves = mini_leaves; were_free = tt; spare = tt; linked = linked; among = among_more minis [] later among }

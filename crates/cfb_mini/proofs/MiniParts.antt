@@ -4,7 +4,7 @@ use Rattle.std.proofs.Math.Seq.{get_or-append_right}
 use Rattle.std.proofs.lemmas.Bool.Decides.{eqb_tells, leb_tells}
 use Rattle.std.proofs.lemmas.List.{ext_get_or, get_or_append_left, get_or-drop, get_or-take}
 use Rattle.cfb_medium.specs.Bytes.{overwritten}
-use Rattle.cfb_chains.specs.Changes.{AreOnce}
+use Rattle.cfb_chains.specs.Changes.{AreDistinct}
 use Rattle.cfb_chains.proofs.ChainWriting.{length_within}
 use Rattle.cfb_chains.proofs.Overwriting.{beside, get_before, get_behind, get_filled, get_written, length-filled}
 use Rattle.cfb_mini.specs.Minis.{mini_joined, mini_sector}
@@ -49,7 +49,7 @@ mini_part s ids position count place inside few is there =
     ∙ ap (λ n. get_or (mini_joined s ids) n 0) (sym here)
     ∙ sym (get_or-take count (drop position (mini_joined s ids)) k 0 less ∙ get_or-drop position (mini_joined s ids) k 0))
 
-module _ (s ids xs : List ℕ) (position place : ℕ) (once : AreOnce ids) (inside : position < 64 * length ids) (few : length xs ≤ 64 - position % 64)
+module _ (s ids xs : List ℕ) (position place : ℕ) (once : AreDistinct ids) (inside : position < 64 * length ids) (few : length xs ≤ 64 - position % 64)
     (is : place ≡ 64 * get_or ids (position / 64) 0 + position % 64) (there : place + length xs ≤ length s) where
   -- the byte of a mini sector after a write in one of a chain
   byte_over : (q r : ℕ) → q < length ids → r < 64

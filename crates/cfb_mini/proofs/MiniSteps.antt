@@ -3,12 +3,12 @@ use Rattle.std.proofs.Common.{◌≡◌, ℕ, ◌+◌, ◌-◌, ◌*◌, ◌/◌
 use Rattle.std.proofs.Math.Seq.{take-add}
 use Rattle.std.proofs.lemmas.List.{length-take-le}
 use Rattle.cfb_medium.specs.Bytes.{overwritten}
-use Rattle.cfb_chains.specs.Changes.{AreOnce, IsNoneOf}
-use Rattle.cfb_owned.proofs.WrittenParts.{over_then}
+use Rattle.cfb_chains.specs.Changes.{AreDistinct, IsNotIn}
+use Rattle.cfb_chain_io.proofs.WrittenParts.{over_then}
 use Rattle.cfb_mini.specs.Minis.{mini_joined, mini_sector}
 use Rattle.cfb_mini.proofs.MiniParts.{length-mini_joined, mini_beside, mini_overwritten}
 
-module _ (s m b ids bytes piece : List ℕ) (at done count place : ℕ) (once : AreOnce ids) (inside : at + length bytes ≤ 64 * length ids) (within : done + count ≤ length bytes) (some : 0 < count)
+module _ (s m b ids bytes piece : List ℕ) (at done count place : ℕ) (once : AreDistinct ids) (inside : at + length bytes ≤ 64 * length ids) (within : done + count ≤ length bytes) (some : 0 < count)
     (few : count ≤ 64 - (at + done) % 64) (size : length piece ≡ count) (is : piece ≡ take count (drop done bytes)) (spot : place ≡ 64 * get_or ids ((at + done) / 64) 0 + (at + done) % 64)
     (there : place + count ≤ length m) (wrote : b ≡ overwritten m place piece) where
   -- a piece more was written, in one mini sector
@@ -24,7 +24,7 @@ module _ (s m b ids bytes piece : List ℕ) (at done count place : ℕ) (once : 
       ∙ ap (overwritten (mini_joined s ids) at) (sym (take-add done count bytes))
 
   -- and no other
-  pub others_over : (n : ℕ) → IsNoneOf ids n → mini_sector m n ≡ mini_sector s n → mini_sector b n ≡ mini_sector s n
+  pub others_over : (n : ℕ) → IsNotIn ids n → mini_sector m n ≡ mini_sector s n → mini_sector b n ≡ mini_sector s n
   others_over n none was =
       ap (λ l. mini_sector l n) wrote
       ∙ mini_beside m piece n (get_or ids ((at + done) / 64) 0) ((at + done) % 64) place (λ same. none ((at + done) / 64) (omega (arith, inside, within, some)) (sym same)) spot (omega (arith, size, few))

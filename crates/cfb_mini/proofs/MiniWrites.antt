@@ -4,17 +4,17 @@ use Rattle.std.proofs.lemmas.Bool.Decides.{leb_tells}
 use Rattle.std.proofs.lemmas.List.{length-take-le}
 use Rattle.cfb_medium.specs.declared.medium.ReadMedium.{Ghosts}
 use Rattle.cfb_sectors.specs.Sectors.{sector}
-use Rattle.cfb_chains.specs.Changes.{AreOnce}
+use Rattle.cfb_chains.specs.Changes.{AreDistinct}
 use Rattle.cfb_chains.specs.LinkViews.{ids_of}
-use Rattle.cfb_chains.specs.Owned.{Becomes}
+use Rattle.cfb_chains.specs.Owned.{ReplacesChain}
 use Rattle.cfb_chains.specs.declared.links.Links.{Links}
 use Rattle.cfb_chains.proofs.ChainGrowing.{among_more}
 use Rattle.cfb_fat.specs.Seeing.{seen_of}
 use Rattle.cfb_fat.specs.Tables.{bytes_of, version_of}
 use Rattle.cfb_fat.specs.declared.allocator.Allocator.{Allocator}
-use Rattle.cfb_owned.specs.Chains.{content_of, len_of, place_of, HasChain, Overwrites}
-use Rattle.cfb_owned.proofs.Owning.{becomes_then}
-use Rattle.cfb_owned.proofs.WrittenParts.{nothing_over}
+use Rattle.cfb_chain_io.specs.ChainEffects.{content_of, len_of, place_of, HasDataChain, Overwrites}
+use Rattle.cfb_chain_io.proofs.Owning.{becomes_then}
+use Rattle.cfb_chain_io.proofs.WrittenParts.{nothing_over}
 use Rattle.cfb_mini.specs.Minis.{mini_place}
 use Rattle.cfb_mini.specs.Overwriting.{WritesMinis}
 use Rattle.cfb_mini.proofs.Entries.{content_len}
@@ -29,17 +29,17 @@ mini_there minis p k place is from few =
     omega (arith, is, same, offset)
 
 module _ {F : Type 0} {g : Ghosts F} where
-  pub writes_none : (at : ℕ) (a : Allocator F g) (stream : Links) (minis : List ℕ) → HasChain a stream → WritesMinis at [] a a stream minis
+  pub writes_none : (at : ℕ) (a : Allocator F g) (stream : Links) (minis : List ℕ) → HasDataChain a stream → WritesMinis at [] a a stream minis
   writes_none at a stream minis chain = record { chain = chain; becomes = (nothing_over at a stream chain).becomes; content = refl; others = λ n none. refl; there = λ k from to. absurd (omega (arith, from, to)) }
 
-  pub writes_more : (at done count place left : ℕ) (bytes piece : List ℕ) (a m b : Allocator F g) (stream : Links) (minis : List ℕ) → AreOnce minis → WritesMinis at (take done bytes) a m stream minis → Overwrites place piece m b stream → version_of m ≡ version_of a
+  pub writes_more : (at done count place left : ℕ) (bytes piece : List ℕ) (a m b : Allocator F g) (stream : Links) (minis : List ℕ) → AreDistinct minis → WritesMinis at (take done bytes) a m stream minis → Overwrites place piece m b stream → version_of m ≡ version_of a
       → place + left ≤ len_of stream → left ≡ 64 - (at + done) % 64 → place ≡ 64 * get_or minis ((at + done) / 64) 0 + (at + done) % 64 → count ≤ left → 0 < count → done + count ≤ length bytes → at + length bytes ≤ 64 * length minis
       → length piece ≡ count → piece ≡ take count (drop done bytes) → WritesMinis at (take (done + count) bytes) a b stream minis
   unfolding seen_of
   writes_more at done count place left bytes piece a m b stream minis once was over version there rest spot few some within inside size is =
       let ids = ids_of stream in
       let long = content_len m stream was.chain.has.version in
-      let step : Becomes (sector (version_of a)) [] ids [] ids (seen_of m) (seen_of b) = subst (λ v. Becomes (sector v) [] ids [] ids (seen_of m) (seen_of b)) version over.becomes in
+      let step : ReplacesChain (sector (version_of a)) [] ids [] ids (seen_of m) (seen_of b) = subst (λ v. ReplacesChain (sector v) [] ids [] ids (seen_of m) (seen_of b)) version over.becomes in
       let fits : place + count ≤ length (content_of m stream) = omega (arith, long, there, few) in
       let short : count ≤ 64 - (at + done) % 64 = omega (arith, few, rest) in
       record {

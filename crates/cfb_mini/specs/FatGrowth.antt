@@ -5,12 +5,12 @@ use Rattle.cfb_medium.specs.declared.medium.ReadMedium.{Ghosts}
 use Rattle.cfb_sectors.specs.Header.{first_mini_fat_sector, mini_fat_sector_count}
 use Rattle.cfb_sectors.specs.Sectors.{end_of_chain, fat_in, free, greatest_regular, sector}
 use Rattle.cfb_chains.specs.LinkViews.{ids_of}
-use Rattle.cfb_chains.specs.Owned.{Becomes}
+use Rattle.cfb_chains.specs.Owned.{ReplacesChain}
 use Rattle.cfb_fat.specs.Seeing.{seen_of}
 use Rattle.cfb_fat.specs.Tables.{bytes_of, version_of}
-use Rattle.cfb_fat.specs.Growing.{LacksNumbers}
+use Rattle.cfb_fat.specs.Growing.{LacksSectorNumbers}
 use Rattle.cfb_fat.specs.declared.allocator.Allocator.{Allocator}
-use Rattle.cfb_owned.specs.Chains.{HasChain}
+use Rattle.cfb_chain_io.specs.ChainEffects.{HasDataChain}
 use Rattle.cfb_mini.specs.NumberViews.{numbers_of}
 use Rattle.cfb_mini.specs.declared.mini_fat.MiniFat.{MiniFat}
 
@@ -28,8 +28,8 @@ module _ {F : Type 0} {g : Ghosts F} where
   pub record GrowsTable (old new : Allocator F g) (before after : MiniFat) : Type 0 where
     pub more : List ℕ
     pub sectors : ids_of after.links ≡ ids_of before.links ++ more
-    pub chain : HasChain new after.links
-    pub becomes : Becomes (sector (version_of old)) mini_fat_words (ids_of before.links) more (ids_of after.links) (seen_of old) (seen_of new)
+    pub chain : HasDataChain new after.links
+    pub becomes : ReplacesChain (sector (version_of old)) mini_fat_words (ids_of before.links) more (ids_of after.links) (seen_of old) (seen_of new)
     pub stream : after.stream ≡ before.stream
     pub numbers : numbers_of after.numbers ≡ numbers_of before.numbers ++ replicate (sector_len (version_of old) / 4) free
     pub same : numbers_of before.numbers ≡ fat_in (version_of old) (bytes_of old) (ids_of before.links)
@@ -38,4 +38,4 @@ module _ {F : Type 0} {g : Ghosts F} where
 
   -- no number of a sector is left for a chain of so many, in the FAT or in the chain
   abbrev pub LacksMore : Allocator F g → ℕ → Type 0
-  LacksMore it count = LacksNumbers it 1 ⊎ (greatest_regular < count)
+  LacksMore it count = LacksSectorNumbers it 1 ⊎ (greatest_regular < count)

@@ -2,7 +2,7 @@
 use Rattle.std.specs.Prelude.{ℕ, ◌+◌, ◌*◌, ◌/◌, ◌%◌, ◌<◌, ◌≤◌, List, [], ◌∷◌, length, slice_index}
 use Rattle.std.specs.List.{flat_map}
 use Rattle.cfb_sectors.specs.Sectors.{filled_part}
-use Rattle.cfb_chains.specs.Grown.{IsLinked}
+use Rattle.cfb_chains.specs.Grown.{IsChainInTable}
 
 -- mini sector n: 64 bytes of the mini stream; those that the stream lacks are zeros ([MS-CFB] 2.4)
 abbrev pub mini_sector : List ℕ → ℕ → List ℕ
@@ -26,7 +26,7 @@ AreInside len minis = (k : ℕ) → k < length minis → 64 * slice_index minis 
 
 -- the mini FAT has the whole chain of these mini sectors, and a mini stream of so many bytes has each ([MS-CFB] 2.4)
 pub record IsMiniChain (table : List ℕ) (len : ℕ) (minis : List ℕ) : Type 0 where
-  pub linked : IsLinked table minis
+  pub linked : IsChainInTable table minis
   pub inside : AreInside len minis
 
 -- a mini stream has no header: each number that would stand in one may change

@@ -2,7 +2,7 @@
 use Rattle.std.specs.Prelude.{◌≡◌, ℕ, ◌<◌, List, length, slice_index}
 use Rattle.cfb_medium.specs.declared.medium.ReadMedium.{Ghosts}
 use Rattle.cfb_sectors.specs.Sectors.{free}
-use Rattle.cfb_chains.specs.Changes.{IsNoneOf}
+use Rattle.cfb_chains.specs.Changes.{IsNotIn}
 use Rattle.cfb_fat.specs.Tables.{fat_of, tables_of}
 use Rattle.cfb_fat.specs.declared.allocator.Allocator.{Allocator}
 
@@ -10,8 +10,8 @@ use Rattle.cfb_fat.specs.declared.allocator.Allocator.{Allocator}
 pub record IsStrayIn (table tables : List ℕ) (own : ℕ → List ℕ) (n : ℕ) : Type 0 where
   pub below : n < length table
   pub in_use : slice_index table n ≡ free → ⊥
-  pub beside : IsNoneOf tables n
-  pub unowned : (k : ℕ) → IsNoneOf (own k) n
+  pub beside : IsNotIn tables n
+  pub unowned : (k : ℕ) → IsNotIn (own k) n
 
 module _ {F : Type 0} {g : Ghosts F} where
   -- each sector that is so where those own theirs was so before, where these did

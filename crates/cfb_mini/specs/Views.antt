@@ -5,10 +5,10 @@ use Rattle.cfb_sectors.specs.Sectors.{end_of_chain, joined}
 use Rattle.cfb_chains.specs.LinkViews.{ids_of}
 use Rattle.cfb_fat.specs.Tables.{bytes_of, version_of}
 use Rattle.cfb_fat.specs.declared.allocator.Allocator.{Allocator}
-use Rattle.cfb_owned.specs.Chains.{len_of}
+use Rattle.cfb_chain_io.specs.ChainEffects.{len_of}
 use Rattle.cfb_tree.specs.Directory.{Entry}
 use Rattle.cfb_directory.specs.Views as directory
-use Rattle.cfb_directory.specs.Views.{entries_held, IsDirectory}
+use Rattle.cfb_directory.specs.Views.{entries_held, DirectoryMatchesBytes}
 use Rattle.cfb_directory.specs.declared.directory.Directory.{Directory}
 use Rattle.cfb_mini.specs.LinkViews.{minis_of}
 use Rattle.cfb_mini.specs.Minis.{mini_joined}
@@ -50,18 +50,18 @@ module _ {F : Type 0} {g : Ghosts F} where
   mini_content_of it links = mini_joined (mini_stream_of it) (minis_of links)
 
   -- memory is that of the bytes: the directory's is, the mini FAT's, and the root's entry says where the mini stream is
-  pub record IsMini (it : MiniAllocator F g) : Type 0 where
-    pub directory : IsDirectory (directory_of it)
+  pub record MiniMatchesBytes (it : MiniAllocator F g) : Type 0 where
+    pub directory : DirectoryMatchesBytes (directory_of it)
     pub over : IsOver (allocator_of it) it.mini_fat
     pub stream_at : (root : Entry) → slice_get (entries_held (directory_of it)) 0 ≡ Some root → root.start ≡ slice_index_or (mini_stream_ids it) 0 end_of_chain
 
   -- nothing but reads and flushes was done
-  pub record MiniRests (old new : MiniAllocator F g) : Type 0 where
-    pub directory : directory.DirectoryRests (directory_of old) (directory_of new)
+  pub record OnlyReadsMini (old new : MiniAllocator F g) : Type 0 where
+    pub directory : directory.OnlyReadsDirectory (directory_of old) (directory_of new)
     pub mini_fat_ids : mini_fat_ids new ≡ mini_fat_ids old
     pub mini_fat : mini_fat_of new ≡ mini_fat_of old
     pub mini_stream_ids : mini_stream_ids new ≡ mini_stream_ids old
-    pub kept : IsMini old → IsMini new
+    pub kept : MiniMatchesBytes old → MiniMatchesBytes new
 
   -- the memory is what it was, and that of the bytes where it was so
   pub record MiniKeepsMemory (old new : MiniAllocator F g) : Type 0 where
@@ -69,4 +69,4 @@ module _ {F : Type 0} {g : Ghosts F} where
     pub mini_fat_ids : mini_fat_ids new ≡ mini_fat_ids old
     pub mini_fat : mini_fat_of new ≡ mini_fat_of old
     pub mini_stream_ids : mini_stream_ids new ≡ mini_stream_ids old
-    pub kept : IsMini old → IsMini new
+    pub kept : MiniMatchesBytes old → MiniMatchesBytes new

@@ -1,15 +1,15 @@
 //! Mini chains that are made longer, with what mini FAT and mini stream lack for it ([MS-CFB] 2.4).
 ghost use Rattle.cfb_chains.specs.ChainCalls.{IsInvalidOrFull};
-ghost use Rattle.cfb_chains.specs.Grown.{IsLinked};
-ghost use Rattle.cfb_fat.specs.Calls.{FatAnswers};
-ghost use Rattle.cfb_fat.specs.Tables.{has_failed_here, orderly_of, version_of, AllFails, HasCauseBelow};
-ghost use Rattle.cfb_medium.specs.Calls.{IsFaultUnless};
+ghost use Rattle.cfb_chains.specs.Grown.{IsChainInTable};
+ghost use Rattle.cfb_fat.specs.Calls.{FatErrorContract};
+ghost use Rattle.cfb_fat.specs.Tables.{has_failed_here, orderly_of, version_of, AllFails, IsJustifiedBySectors};
+ghost use Rattle.cfb_medium.specs.Calls.{IsFaultOrInvalidInputIf};
 ghost use Rattle.cfb_medium.specs.Versions.{sector_len, stream_len_mask};
 ghost use Rattle.cfb_medium.specs.declared.error.Error.TheVariants.{Full, InvalidData};
-ghost use Rattle.cfb_mini.specs.Changing.{free_minis, stream_sectors, table_sectors, GrowsMiniFat, GrowsMiniStream, HasOwners, IsCovered, LacksMini, LacksOne, LacksTables, Lengthens};
+ghost use Rattle.cfb_mini.specs.Changing.{free_minis, stream_sectors, table_sectors, GrowsMiniFat, GrowsMiniStream, HasUniqueOwners, IsCovered, LacksMiniSectors, LacksOne, LacksTables, AppendsMiniSectors};
 ghost use Rattle.cfb_mini.specs.LinkViews.{minis_of};
-ghost use Rattle.cfb_mini.specs.Views.{allocator_of, mini_fat_ids, mini_fat_of, mini_stream_ids, IsMini, MiniRests};
-ghost use Rattle.cfb_owned.specs.Chains.{GoesOn};
+ghost use Rattle.cfb_mini.specs.Views.{allocator_of, mini_fat_ids, mini_fat_of, mini_stream_ids, MiniMatchesBytes, OnlyReadsMini};
+ghost use Rattle.cfb_chain_io.specs.ChainEffects.{KeepsFileInvariants};
 ghost use Rattle.cfb_sectors.specs.Sectors.{greatest_regular};
 ghost use Rattle.std.specs.Prelude.{false, length, max, true, IfErr, IsErrOf, IsTrue, List, MatchOption, OnErr, OnOk, ℕ, ◌<◌, ◌*◌, ◌+◌, ◌-◌, ◌≡◌, ◌≤◌, ◌⊎◌};
 
@@ -22,16 +22,17 @@ impl<F: Medium> MiniAllocator<F> {
     // Gives the mini FAT a sector more where it has no number for a mini sector behind the mini stream, and else the mini
     // stream. After an error nothing is changed, or it has failed.
     fn grow_tables(&mut self) -> Result<(), Error>
-        ensures grown { OnOk result ((own : ℕ → List ℕ) → HasOwners self.old own
+        ensures grown { OnOk result ((own : ℕ → List ℕ) → HasUniqueOwners self.old own
             → GrowsMiniFat self.old self.new own ⊎ GrowsMiniStream self.old self.new own) }
-        ensures refused { IsErrOf result InvalidData → (own : ℕ → List ℕ) → HasOwners self.old own
+        ensures refused_only_if { IsErrOf result InvalidData → (own : ℕ → List ℕ)
+            → HasUniqueOwners self.old own
             → IsTrue (orderly_of (allocator_of self.old)) → ⊥ }
-        ensures full { IsErrOf result Full → has_failed_here (allocator_of self.new) ≡ false
-            → IsMini self.old → LacksOne self.old }
-        ensures rests { OnErr result ((has_failed_here (allocator_of self.new) ≡ true)
-            ⊎ MiniRests self.old self.new) }
-        ensures goes_on { GoesOn (allocator_of self.old) (allocator_of self.new) }
-        ensures answers { FatAnswers IsInvalidOrFull result (allocator_of self.old)
+        ensures full_only_if { IsErrOf result Full → has_failed_here (allocator_of self.new) ≡ false
+            → MiniMatchesBytes self.old → LacksOne self.old }
+        ensures after_error { OnErr result ((has_failed_here (allocator_of self.new) ≡ true)
+            ⊎ OnlyReadsMini self.old self.new) }
+        ensures invariants { KeepsFileInvariants (allocator_of self.old) (allocator_of self.new) }
+        ensures error_contract { FatErrorContract IsInvalidOrFull result (allocator_of self.old)
             (allocator_of self.new) }
     {
         let count = self.mini_fat.numbers.items().len() as u64;
@@ -44,21 +45,22 @@ impl<F: Medium> MiniAllocator<F> {
     // Takes a mini sector into use behind a mini chain's last one, or where none is free, makes mini FAT or mini stream
     // longer. After an error nothing is changed, or it has failed.
     fn take_or_grow(&mut self, links: &mut MiniLinks) -> Result<(), Error>
-        ensures lengthens { OnOk result ((own : ℕ → List ℕ) → HasOwners self.old own
-            → IsLinked (mini_fat_of self.old) (minis_of links.old)
-            → Lengthens self.old self.new (minis_of links.old) (minis_of links.new) own
+        ensures lengthens { OnOk result ((own : ℕ → List ℕ) → HasUniqueOwners self.old own
+            → IsChainInTable (mini_fat_of self.old) (minis_of links.old)
+            → AppendsMiniSectors self.old self.new (minis_of links.old) (minis_of links.new) own
             × (length (minis_of links.new) ≤ length (minis_of links.old) + 1)) }
         ensures kept { OnErr result (minis_of links.new ≡ minis_of links.old) }
-        ensures refused { IsErrOf result InvalidData → (own : ℕ → List ℕ) → HasOwners self.old own
-            → IsLinked (mini_fat_of self.old) (minis_of links.old)
+        ensures refused_only_if { IsErrOf result InvalidData → (own : ℕ → List ℕ)
+            → HasUniqueOwners self.old own
+            → IsChainInTable (mini_fat_of self.old) (minis_of links.old)
             → IsTrue (orderly_of (allocator_of self.old)) → ⊥ }
-        ensures full { IsErrOf result Full → has_failed_here (allocator_of self.new) ≡ false
-            → IsMini self.old → LacksOne self.old
+        ensures full_only_if { IsErrOf result Full → has_failed_here (allocator_of self.new) ≡ false
+            → MiniMatchesBytes self.old → LacksOne self.old
             ⊎ (greatest_regular < length (minis_of links.old)) }
-        ensures rests { OnErr result ((has_failed_here (allocator_of self.new) ≡ true)
-            ⊎ MiniRests self.old self.new) }
-        ensures goes_on { GoesOn (allocator_of self.old) (allocator_of self.new) }
-        ensures answers { FatAnswers IsInvalidOrFull result (allocator_of self.old)
+        ensures after_error { OnErr result ((has_failed_here (allocator_of self.new) ≡ true)
+            ⊎ OnlyReadsMini self.old self.new) }
+        ensures invariants { KeepsFileInvariants (allocator_of self.old) (allocator_of self.new) }
+        ensures error_contract { FatErrorContract IsInvalidOrFull result (allocator_of self.old)
             (allocator_of self.new) }
     {
         match self.extend_mini_chain(links) {
@@ -79,20 +81,21 @@ impl<F: Medium> MiniAllocator<F> {
     // Makes a mini chain longer, until it has so many mini sectors. After an error it has failed.
     fn lengthen_on(&mut self, links: &mut MiniLinks, count: usize) -> Result<(), Error>
         requires { has_failed_here (allocator_of self.old) ≡ false }
-        ensures lengthened { OnOk result ((own : ℕ → List ℕ) → HasOwners self.old own
-            → IsLinked (mini_fat_of self.old) (minis_of links.old)
-            → Lengthens self.old self.new (minis_of links.old) (minis_of links.new) own
+        ensures lengthened { OnOk result ((own : ℕ → List ℕ) → HasUniqueOwners self.old own
+            → IsChainInTable (mini_fat_of self.old) (minis_of links.old)
+            → AppendsMiniSectors self.old self.new (minis_of links.old) (minis_of links.new) own
             × (length (minis_of links.new) ≤ max count (length (minis_of links.old)))) }
         ensures enough { OnOk result (count ≤ length (minis_of links.new)) }
-        ensures refused { IsErrOf result InvalidData → (own : ℕ → List ℕ) → HasOwners self.old own
-            → IsLinked (mini_fat_of self.old) (minis_of links.old)
+        ensures refused_only_if { IsErrOf result InvalidData → (own : ℕ → List ℕ)
+            → HasUniqueOwners self.old own
+            → IsChainInTable (mini_fat_of self.old) (minis_of links.old)
             → IsTrue (orderly_of (allocator_of self.old)) → ⊥ }
-        ensures live { OnOk result (has_failed_here (allocator_of self.new) ≡ false) }
-        ensures failed { OnErr result (has_failed_here (allocator_of self.new) ≡ true) }
-        ensures goes_on { GoesOn (allocator_of self.old) (allocator_of self.new) }
-        ensures cause { IfErr result (HasCauseBelow (allocator_of self.old)
+        ensures not_failed { OnOk result (has_failed_here (allocator_of self.new) ≡ false) }
+        ensures when_failed { OnErr result (has_failed_here (allocator_of self.new) ≡ true) }
+        ensures invariants { KeepsFileInvariants (allocator_of self.old) (allocator_of self.new) }
+        ensures cause { IfErr result (IsJustifiedBySectors (allocator_of self.old)
             (allocator_of self.new)) }
-        ensures fault { IfErr result (λ e. IsFaultUnless ⊥ e ⊎ IsInvalidOrFull e) }
+        ensures errors { IfErr result (λ e. IsFaultOrInvalidInputIf ⊥ e ⊎ IsInvalidOrFull e) }
     {
         'taking: for _ in 0..u64::MAX {
             if links.mini_sector_ids().len() >= count {
@@ -133,12 +136,13 @@ impl<F: Medium> MiniAllocator<F> {
     // not so many are free, and for the others numbers of sectors are missing, or room for the mini stream's size; `InvalidData` where the
     // FAT's tables can't be changed. Nothing is changed.
     fn prepare_minis(&mut self, count: usize) -> Result<(), Error>
-        ensures rests { MiniRests self.old self.new }
-        ensures refused { IsErrOf result InvalidData → IsTrue (orderly_of (allocator_of self.old))
+        ensures only_reads { OnlyReadsMini self.old self.new }
+        ensures refused_only_if { IsErrOf result InvalidData
+            → IsTrue (orderly_of (allocator_of self.old))
             → ⊥ }
-        ensures full { IsErrOf result Full → (free_minis self.old < count)
+        ensures full_only_if { IsErrOf result Full → (free_minis self.old < count)
             × LacksTables (count - free_minis self.old) self.old }
-        ensures answers { FatAnswers IsInvalidOrFull result (allocator_of self.old)
+        ensures error_contract { FatErrorContract IsInvalidOrFull result (allocator_of self.old)
             (allocator_of self.new) }
     {
         if self.directory.allocator().is_failed() {
@@ -159,24 +163,25 @@ impl<F: Medium> MiniAllocator<F> {
 
     // Makes a mini chain so many mini sectors long, for which there is room. After an error nothing is changed, or it has failed.
     fn lengthen_ready(&mut self, links: &mut MiniLinks, count: usize) -> Result<(), Error>
-        ensures lengthened { OnOk result ((own : ℕ → List ℕ) → HasOwners self.old own
-            → IsLinked (mini_fat_of self.old) (minis_of links.old)
-            → Lengthens self.old self.new (minis_of links.old) (minis_of links.new) own
+        ensures lengthened { OnOk result ((own : ℕ → List ℕ) → HasUniqueOwners self.old own
+            → IsChainInTable (mini_fat_of self.old) (minis_of links.old)
+            → AppendsMiniSectors self.old self.new (minis_of links.old) (minis_of links.new) own
             × (length (minis_of links.new) ≤ max count (length (minis_of links.old)))
             × (length (minis_of links.old) < count → IsCovered self.new)) }
         ensures enough { OnOk result (count ≤ length (minis_of links.new)) }
         ensures kept { OnErr result (has_failed_here (allocator_of self.new) ≡ false
             → minis_of links.new ≡ minis_of links.old) }
-        ensures refused { IsErrOf result InvalidData → (own : ℕ → List ℕ) → HasOwners self.old own
-            → IsLinked (mini_fat_of self.old) (minis_of links.old)
+        ensures refused_only_if { IsErrOf result InvalidData → (own : ℕ → List ℕ)
+            → HasUniqueOwners self.old own
+            → IsChainInTable (mini_fat_of self.old) (minis_of links.old)
             → IsTrue (orderly_of (allocator_of self.old)) → ⊥ }
-        ensures full { IsErrOf result Full → has_failed_here (allocator_of self.new) ≡ false
-            → IsMini self.old → LacksOne self.old
+        ensures full_only_if { IsErrOf result Full → has_failed_here (allocator_of self.new) ≡ false
+            → MiniMatchesBytes self.old → LacksOne self.old
             ⊎ (greatest_regular < length (minis_of links.old)) }
-        ensures rests { OnErr result ((has_failed_here (allocator_of self.new) ≡ true)
-            ⊎ MiniRests self.old self.new) }
-        ensures goes_on { GoesOn (allocator_of self.old) (allocator_of self.new) }
-        ensures answers { FatAnswers IsInvalidOrFull result (allocator_of self.old)
+        ensures after_error { OnErr result ((has_failed_here (allocator_of self.new) ≡ true)
+            ⊎ OnlyReadsMini self.old self.new) }
+        ensures invariants { KeepsFileInvariants (allocator_of self.old) (allocator_of self.new) }
+        ensures error_contract { FatErrorContract IsInvalidOrFull result (allocator_of self.old)
             (allocator_of self.new) }
     {
         if self.directory.allocator().is_failed() {
@@ -203,24 +208,26 @@ impl<F: Medium> MiniAllocator<F> {
     /// size (in version 3 past 2^32 - 1 bytes): this is seen to first. After an error nothing is changed, or it has failed
     /// ([MS-CFB] 2.4, 2.6.2).
     pub fn lengthen_mini_chain(&mut self, links: &mut MiniLinks, count: usize) -> Result<(), Error>
-        ensures lengthened { OnOk result ((own : ℕ → List ℕ) → HasOwners self.old own
-            → IsLinked (mini_fat_of self.old) (minis_of links.old)
-            → Lengthens self.old self.new (minis_of links.old) (minis_of links.new) own
+        ensures lengthened { OnOk result ((own : ℕ → List ℕ) → HasUniqueOwners self.old own
+            → IsChainInTable (mini_fat_of self.old) (minis_of links.old)
+            → AppendsMiniSectors self.old self.new (minis_of links.old) (minis_of links.new) own
             × (length (minis_of links.new) ≤ max count (length (minis_of links.old)))
             × (length (minis_of links.old) < count → IsCovered self.new)) }
         ensures enough { OnOk result (count ≤ length (minis_of links.new)) }
         ensures kept { OnErr result (has_failed_here (allocator_of self.new) ≡ false
             → minis_of links.new ≡ minis_of links.old) }
-        ensures refused { IsErrOf result InvalidData → (own : ℕ → List ℕ) → HasOwners self.old own
-            → IsLinked (mini_fat_of self.old) (minis_of links.old)
+        ensures refused_only_if { IsErrOf result InvalidData → (own : ℕ → List ℕ)
+            → HasUniqueOwners self.old own
+            → IsChainInTable (mini_fat_of self.old) (minis_of links.old)
             → IsTrue (orderly_of (allocator_of self.old)) → ⊥ }
-        ensures full { IsErrOf result Full → has_failed_here (allocator_of self.new) ≡ false
-            → IsMini self.old → LacksMini (count - length (minis_of links.old)) self.old
+        ensures full_only_if { IsErrOf result Full → has_failed_here (allocator_of self.new) ≡ false
+            → MiniMatchesBytes self.old
+            → LacksMiniSectors (count - length (minis_of links.old)) self.old
             ⊎ (greatest_regular < length (minis_of links.old)) }
-        ensures rests { OnErr result ((has_failed_here (allocator_of self.new) ≡ true)
-            ⊎ MiniRests self.old self.new) }
-        ensures goes_on { GoesOn (allocator_of self.old) (allocator_of self.new) }
-        ensures answers { FatAnswers IsInvalidOrFull result (allocator_of self.old)
+        ensures after_error { OnErr result ((has_failed_here (allocator_of self.new) ≡ true)
+            ⊎ OnlyReadsMini self.old self.new) }
+        ensures invariants { KeepsFileInvariants (allocator_of self.old) (allocator_of self.new) }
+        ensures error_contract { FatErrorContract IsInvalidOrFull result (allocator_of self.old)
             (allocator_of self.new) }
     {
         let more = count.saturating_sub(links.mini_sector_ids().len());

@@ -1,19 +1,19 @@
 //! Mini chains that are written over and freed, and the calls that are passed down.
 ghost use Rattle.cfb_chains.specs.ChainCalls.{IsInvalid, IsInvalidOrFull, IsInvalidPlace};
-ghost use Rattle.cfb_chains.specs.Grown.{IsLinked};
-ghost use Rattle.cfb_fat.specs.Calls.{FatAnswers};
+ghost use Rattle.cfb_chains.specs.Grown.{IsChainInTable};
+ghost use Rattle.cfb_fat.specs.Calls.{FatErrorContract};
 ghost use Rattle.cfb_fat.specs.Orderly.{AreBelow};
-ghost use Rattle.cfb_fat.specs.Tables.{bytes_of, has_failed as allocator_failed, has_failed_here, is_honest, medium_of, orderly_of, sectors_of, HasCauseBelow};
-ghost use Rattle.cfb_medium.specs.Calls.{IsCutOff, IsFaultUnless};
+ghost use Rattle.cfb_fat.specs.Tables.{bytes_of, has_failed as allocator_failed, has_failed_here, is_honest, medium_of, orderly_of, sectors_of, IsJustifiedBySectors};
+ghost use Rattle.cfb_medium.specs.Calls.{IsCutOff, IsFaultOrInvalidInputIf};
 ghost use Rattle.cfb_medium.specs.declared.error.Error.TheVariants.{Failed, Full, InvalidData, InvalidInput};
-ghost use Rattle.cfb_mini.specs.Changing.{Extends, Frees, GrowsMiniFat, HasOwners, MiniOverwrites, Shortens};
+ghost use Rattle.cfb_mini.specs.Changing.{AppendsFreeMiniSector, FreesMiniSectors, GrowsMiniFat, HasUniqueOwners, MiniOverwrites, Shortens};
 ghost use Rattle.cfb_mini.specs.FatGrowth.{LacksMore};
 ghost use Rattle.cfb_mini.specs.LinkViews.{minis_of};
 ghost use Rattle.cfb_mini.specs.Minis.{IsMiniChain};
-ghost use Rattle.cfb_mini.specs.NextSector.{IsFreeIn};
-ghost use Rattle.cfb_mini.specs.Views.{allocator_of, mini_fat_ids, mini_fat_of, mini_stream_len, MiniKeepsMemory, MiniRests};
-ghost use Rattle.cfb_owned.specs.Chains.{GoesOn};
-ghost use Rattle.cfb_sectors.specs.Held.{LeavesOldOrBytes};
+ghost use Rattle.cfb_mini.specs.NextSector.{IsFreeMiniSector};
+ghost use Rattle.cfb_mini.specs.Views.{allocator_of, mini_fat_ids, mini_fat_of, mini_stream_len, MiniKeepsMemory, OnlyReadsMini};
+ghost use Rattle.cfb_chain_io.specs.ChainEffects.{KeepsFileInvariants};
+ghost use Rattle.cfb_sectors.specs.Held.{CrashLeavesOldOrBytes};
 ghost use Rattle.cfb_sectors.specs.Sectors.{greatest_regular};
 ghost use Rattle.std.specs.Prelude.{false, length, true, IfErr, IfOk, IsErrOf, IsTrue, List, OnErr, OnOk, [], ℕ, ◌*◌, ◌+◌, ◌<◌, ◌≡◌, ◌≤◌, ◌↔◌, ◌⊎◌};
 
@@ -34,11 +34,12 @@ impl<F: Medium> MiniAllocator<F> {
 
     /// Passes on what the medium keeps back, and publishes nothing.
     pub fn flush(&mut self) -> Result<(), Error>
-        ensures rests { MiniRests self.old self.new }
-        ensures failed { has_failed_here (allocator_of self.old) ≡ true → IsErrOf result Failed }
-        ensures cause { IfErr result (HasCauseBelow (allocator_of self.old)
+        ensures only_reads { OnlyReadsMini self.old self.new }
+        ensures when_failed { has_failed_here (allocator_of self.old) ≡ true
+            → IsErrOf result Failed }
+        ensures cause { IfErr result (IsJustifiedBySectors (allocator_of self.old)
             (allocator_of self.new)) }
-        ensures fault { IfErr result (IsFaultUnless ⊥) }
+        ensures errors { IfErr result (IsFaultOrInvalidInputIf ⊥) }
     {
         self.directory.flush()
     }
@@ -48,18 +49,18 @@ impl<F: Medium> MiniAllocator<F> {
         ensures published { IsTrue (is_honest (allocator_of self.old))
             → OnOk result (F.has_published (medium_of (allocator_of self.new))
             (bytes_of (allocator_of self.old))) }
-        ensures left { IsTrue (is_honest (allocator_of self.old))
-            → LeavesOldOrBytes (sectors_of (allocator_of self.old))
+        ensures crash { IsTrue (is_honest (allocator_of self.old))
+            → CrashLeavesOldOrBytes (sectors_of (allocator_of self.old))
             (sectors_of (allocator_of self.new)) }
         ensures memory { MiniKeepsMemory self.old self.new }
         ensures bytes { has_failed_here (allocator_of self.new) ≡ false
             → IsTrue (is_honest (allocator_of self.old))
             → bytes_of (allocator_of self.new) ≡ bytes_of (allocator_of self.old) }
-        ensures live { OnOk result (has_failed_here (allocator_of self.new) ≡ false) }
-        ensures err { OnErr result (has_failed_here (allocator_of self.new) ≡ true) }
-        ensures failed { has_failed_here (allocator_of self.old) ≡ true
-            → IsErrOf result Failed × MiniRests self.old self.new }
-        ensures cause { IfErr result (HasCauseBelow (allocator_of self.old)
+        ensures not_failed { OnOk result (has_failed_here (allocator_of self.new) ≡ false) }
+        ensures after_error { OnErr result (has_failed_here (allocator_of self.new) ≡ true) }
+        ensures when_failed { has_failed_here (allocator_of self.old) ≡ true
+            → IsErrOf result Failed × OnlyReadsMini self.old self.new }
+        ensures cause { IfErr result (IsJustifiedBySectors (allocator_of self.old)
             (allocator_of self.new)) }
         ensures medium { (F.failures (medium_of (allocator_of self.old))
             ≤ F.failures (medium_of (allocator_of self.new)))
@@ -67,7 +68,7 @@ impl<F: Medium> MiniAllocator<F> {
             ≡ F.failed (medium_of (allocator_of self.old))) }
         ensures cut { IfErr result (IsCutOff F.failed F.continues
             (medium_of (allocator_of self.old)) (medium_of (allocator_of self.new))) }
-        ensures fault { IfErr result (IsFaultUnless ⊥) }
+        ensures errors { IfErr result (IsFaultOrInvalidInputIf ⊥) }
     {
         self.directory.commit()
     }
@@ -81,21 +82,22 @@ impl<F: Medium> MiniAllocator<F> {
         at: u64,
         bytes: &[u8],
     ) -> Result<(), Error>
-        ensures written { OnOk result ((own : ℕ → List ℕ) → HasOwners self.old own
+        ensures written { OnOk result ((own : ℕ → List ℕ) → HasUniqueOwners self.old own
             → IsMiniChain (mini_fat_of self.old) (mini_stream_len self.old) (minis_of links.now)
             → MiniOverwrites at bytes.now self.old self.new links.now own) }
         ensures there { OnOk result (at + length bytes.now ≤ 64 * length (minis_of links.now)) }
         ensures past { IsErrOf result InvalidInput
             ↔ ((has_failed_here (allocator_of self.old) ≡ false)
             × (64 * length (minis_of links.now) < at + length bytes.now)) }
-        ensures unchanged { IsErrOf result InvalidInput → MiniRests self.old self.new }
-        ensures refused { IsErrOf result InvalidData → (own : ℕ → List ℕ) → HasOwners self.old own
+        ensures unchanged { IsErrOf result InvalidInput → OnlyReadsMini self.old self.new }
+        ensures refused_only_if { IsErrOf result InvalidData → (own : ℕ → List ℕ)
+            → HasUniqueOwners self.old own
             → IsMiniChain (mini_fat_of self.old) (mini_stream_len self.old) (minis_of links.now)
             → ⊥ }
-        ensures rests { OnErr result ((has_failed_here (allocator_of self.new) ≡ true)
-            ⊎ MiniRests self.old self.new) }
-        ensures goes_on { GoesOn (allocator_of self.old) (allocator_of self.new) }
-        ensures answers { FatAnswers IsInvalidPlace result (allocator_of self.old)
+        ensures after_error { OnErr result ((has_failed_here (allocator_of self.new) ≡ true)
+            ⊎ OnlyReadsMini self.old self.new) }
+        ensures invariants { KeepsFileInvariants (allocator_of self.old) (allocator_of self.new) }
+        ensures error_contract { FatErrorContract IsInvalidPlace result (allocator_of self.old)
             (allocator_of self.new) }
     {
         overwrite_minis(
@@ -114,19 +116,24 @@ impl<F: Medium> MiniAllocator<F> {
     /// changed, or it has failed. The root's size stays: `lengthen_mini_chain` sees to it ([MS-CFB] 2.4).
     pub fn extend_mini_chain(&mut self, links: &mut MiniLinks) -> Result<bool, Error>
         ensures extended { IfOk result (λ took. took ≡ true → (own : ℕ → List ℕ)
-            → HasOwners self.old own → IsLinked (mini_fat_of self.old) (minis_of links.old)
-            → Extends self.old self.new (minis_of links.old) (minis_of links.new) own) }
-        ensures none { IfOk result (λ took. took ≡ false → MiniRests self.old self.new
+            → HasUniqueOwners self.old own
+            → IsChainInTable (mini_fat_of self.old) (minis_of links.old)
+            → AppendsFreeMiniSector self.old self.new (minis_of links.old)
+            (minis_of links.new) own) }
+        ensures none { IfOk result (λ took. took ≡ false → OnlyReadsMini self.old self.new
             × (minis_of links.new ≡ minis_of links.old)
-            × ((n : ℕ) → IsFreeIn (mini_fat_of self.old) (mini_stream_len self.old) n → ⊥)) }
+            × ((n : ℕ) → IsFreeMiniSector (mini_fat_of self.old) (mini_stream_len self.old) n
+            → ⊥)) }
         ensures kept { OnErr result (minis_of links.new ≡ minis_of links.old) }
-        ensures refused { IsErrOf result InvalidData → (own : ℕ → List ℕ) → HasOwners self.old own
-            → IsLinked (mini_fat_of self.old) (minis_of links.old) → ⊥ }
-        ensures full { IsErrOf result Full → greatest_regular < length (minis_of links.old) }
-        ensures rests { OnErr result ((has_failed_here (allocator_of self.new) ≡ true)
-            ⊎ MiniRests self.old self.new) }
-        ensures goes_on { GoesOn (allocator_of self.old) (allocator_of self.new) }
-        ensures answers { FatAnswers IsInvalidOrFull result (allocator_of self.old)
+        ensures refused_only_if { IsErrOf result InvalidData → (own : ℕ → List ℕ)
+            → HasUniqueOwners self.old own
+            → IsChainInTable (mini_fat_of self.old) (minis_of links.old) → ⊥ }
+        ensures full_only_if { IsErrOf result Full
+            → greatest_regular < length (minis_of links.old) }
+        ensures after_error { OnErr result ((has_failed_here (allocator_of self.new) ≡ true)
+            ⊎ OnlyReadsMini self.old self.new) }
+        ensures invariants { KeepsFileInvariants (allocator_of self.old) (allocator_of self.new) }
+        ensures error_contract { FatErrorContract IsInvalidOrFull result (allocator_of self.old)
             (allocator_of self.new) }
     {
         extend_minis(self.directory.allocator_mut(), &mut self.mini_fat, links)
@@ -136,16 +143,17 @@ impl<F: Medium> MiniAllocator<F> {
     /// `InvalidData` where the FAT's tables can't be changed or haven't the mini FAT's chain, and then `Full` where no number
     /// of a sector is left. After an error nothing is changed, or it has failed ([MS-CFB] 2.2, 2.4).
     pub fn grow_mini_fat(&mut self) -> Result<(), Error>
-        ensures grown { OnOk result ((own : ℕ → List ℕ) → HasOwners self.old own
+        ensures grown { OnOk result ((own : ℕ → List ℕ) → HasUniqueOwners self.old own
             → GrowsMiniFat self.old self.new own) }
-        ensures refused { IsErrOf result InvalidData → (own : ℕ → List ℕ) → HasOwners self.old own
+        ensures refused_only_if { IsErrOf result InvalidData → (own : ℕ → List ℕ)
+            → HasUniqueOwners self.old own
             → IsTrue (orderly_of (allocator_of self.old)) → ⊥ }
-        ensures full { IsErrOf result Full → has_failed_here (allocator_of self.new) ≡ false
+        ensures full_only_if { IsErrOf result Full → has_failed_here (allocator_of self.new) ≡ false
             → LacksMore (allocator_of self.old) (length (mini_fat_ids self.old)) }
-        ensures rests { OnErr result ((has_failed_here (allocator_of self.new) ≡ true)
-            ⊎ MiniRests self.old self.new) }
-        ensures goes_on { GoesOn (allocator_of self.old) (allocator_of self.new) }
-        ensures answers { FatAnswers IsInvalidOrFull result (allocator_of self.old)
+        ensures after_error { OnErr result ((has_failed_here (allocator_of self.new) ≡ true)
+            ⊎ OnlyReadsMini self.old self.new) }
+        ensures invariants { KeepsFileInvariants (allocator_of self.old) (allocator_of self.new) }
+        ensures error_contract { FatErrorContract IsInvalidOrFull result (allocator_of self.old)
             (allocator_of self.new) }
     {
         grow_table(self.directory.allocator_mut(), &mut self.mini_fat)
@@ -154,16 +162,17 @@ impl<F: Medium> MiniAllocator<F> {
     /// Frees the mini sectors of a mini chain; it has none then. `InvalidData` where the mini FAT hasn't one of them, and then
     /// nothing is changed, or where the FAT hasn't the mini FAT's chain. After any other error it has failed ([MS-CFB] 2.4).
     pub fn free_mini_chain(&mut self, links: &mut MiniLinks) -> Result<(), Error>
-        ensures freed { OnOk result ((own : ℕ → List ℕ) → HasOwners self.old own
-            → Frees (minis_of links.old) self.old self.new own) }
+        ensures freed { OnOk result ((own : ℕ → List ℕ) → HasUniqueOwners self.old own
+            → FreesMiniSectors (minis_of links.old) self.old self.new own) }
         ensures emptied { OnOk result (minis_of links.new ≡ []) }
-        ensures refused { IsErrOf result InvalidData → (own : ℕ → List ℕ) → HasOwners self.old own
+        ensures refused_only_if { IsErrOf result InvalidData → (own : ℕ → List ℕ)
+            → HasUniqueOwners self.old own
             → AreBelow (length (mini_fat_of self.old)) (minis_of links.old) → ⊥ }
         ensures kept { OnErr result (minis_of links.new ≡ minis_of links.old) }
-        ensures rests { OnErr result ((has_failed_here (allocator_of self.new) ≡ true)
-            ⊎ MiniRests self.old self.new) }
-        ensures goes_on { GoesOn (allocator_of self.old) (allocator_of self.new) }
-        ensures answers { FatAnswers IsInvalid result (allocator_of self.old)
+        ensures after_error { OnErr result ((has_failed_here (allocator_of self.new) ≡ true)
+            ⊎ OnlyReadsMini self.old self.new) }
+        ensures invariants { KeepsFileInvariants (allocator_of self.old) (allocator_of self.new) }
+        ensures error_contract { FatErrorContract IsInvalid result (allocator_of self.old)
             (allocator_of self.new) }
     {
         free_minis(self.directory.allocator_mut(), &mut self.mini_fat, links)
@@ -173,16 +182,17 @@ impl<F: Medium> MiniAllocator<F> {
     /// `InvalidData` where the mini FAT hasn't one of its mini sectors, and then nothing is changed, or where the FAT hasn't
     /// the mini FAT's chain. After any other error it has failed ([MS-CFB] 2.4).
     pub fn shorten_mini_chain(&mut self, links: &mut MiniLinks, count: usize) -> Result<(), Error>
-        ensures shortened { OnOk result ((own : ℕ → List ℕ) → HasOwners self.old own
-            → IsLinked (mini_fat_of self.old) (minis_of links.old)
+        ensures shortened { OnOk result ((own : ℕ → List ℕ) → HasUniqueOwners self.old own
+            → IsChainInTable (mini_fat_of self.old) (minis_of links.old)
             → Shortens count self.old self.new (minis_of links.old) (minis_of links.new) own) }
-        ensures refused { IsErrOf result InvalidData → (own : ℕ → List ℕ) → HasOwners self.old own
+        ensures refused_only_if { IsErrOf result InvalidData → (own : ℕ → List ℕ)
+            → HasUniqueOwners self.old own
             → AreBelow (length (mini_fat_of self.old)) (minis_of links.old) → ⊥ }
         ensures kept { OnErr result (minis_of links.new ≡ minis_of links.old) }
-        ensures rests { OnErr result ((has_failed_here (allocator_of self.new) ≡ true)
-            ⊎ MiniRests self.old self.new) }
-        ensures goes_on { GoesOn (allocator_of self.old) (allocator_of self.new) }
-        ensures answers { FatAnswers IsInvalid result (allocator_of self.old)
+        ensures after_error { OnErr result ((has_failed_here (allocator_of self.new) ≡ true)
+            ⊎ OnlyReadsMini self.old self.new) }
+        ensures invariants { KeepsFileInvariants (allocator_of self.old) (allocator_of self.new) }
+        ensures error_contract { FatErrorContract IsInvalid result (allocator_of self.old)
             (allocator_of self.new) }
     {
         cut_minis(

@@ -1,23 +1,23 @@
 //! The mini FAT, made longer ([MS-CFB] 2.4).
 ghost use Rattle.cfb_chains.specs.ChainCalls.{IsInvalidOrFull};
 ghost use Rattle.cfb_chains.specs.LinkViews.{ids_of, links_version};
-ghost use Rattle.cfb_chains.specs.Owned.{Leaves};
-ghost use Rattle.cfb_fat.specs.Calls.{FatAnswers};
+ghost use Rattle.cfb_chains.specs.Owned.{ChangesAtMost};
+ghost use Rattle.cfb_fat.specs.Calls.{FatErrorContract};
 ghost use Rattle.cfb_fat.specs.Seeing.{seen_of};
-ghost use Rattle.cfb_fat.specs.Tables.{bytes_of, has_failed_here, is_honest, orderly_of, version_of, HasCauseBelow};
-ghost use Rattle.cfb_medium.specs.Calls.{IsFaultUnless};
+ghost use Rattle.cfb_fat.specs.Tables.{bytes_of, has_failed_here, is_honest, orderly_of, version_of, IsJustifiedBySectors};
+ghost use Rattle.cfb_medium.specs.Calls.{IsFaultOrInvalidInputIf};
 ghost use Rattle.cfb_medium.specs.declared.error.Error.TheVariants.{Full, InvalidData};
 ghost use Rattle.cfb_mini.specs.FatGrowth.{mini_fat_words, GrowsTable, TellsMiniFat};
 ghost use Rattle.cfb_mini.specs.NumberViews.{numbers_of};
-ghost use Rattle.cfb_owned.specs.Chains.{GoesOn, HasChain, LacksSectors};
+ghost use Rattle.cfb_chain_io.specs.ChainEffects.{KeepsFileInvariants, HasDataChain, LacksSectors};
 ghost use Rattle.cfb_sectors.specs.Sectors.{end_of_chain, sector};
 ghost use Rattle.std.specs.Prelude.{false, length, slice_index_or, true, IfErr, IsErrOf, IsTrue, OnErr, OnOk, [], ◌+◌, ◌≡◌};
 
 use crate::mini_fat::MiniFat;
+use cfb_chain_io::{set_chain_len, write_word};
 use cfb_chains::Links;
 use cfb_fat::{Allocator, HeaderWord};
 use cfb_medium::{Error, Medium};
-use cfb_owned::{set_chain_len, write_word};
 use cfb_sectors::{END_OF_CHAIN, HasSectors, SectorInit};
 
 // The first of a chain's sectors; "end of chain" where it has none.
@@ -40,15 +40,16 @@ fn count_of(links: &Links) -> u32
 // Tells the header where the mini FAT begins, and how many sectors it has. After an error it has failed ([MS-CFB] 2.2).
 fn tell_header<F: Medium>(allocator: &mut Allocator<F>, links: &Links) -> Result<(), Error>
     ensures leaves { OnOk result (IsTrue (is_honest allocator.old)
-        → Leaves (sector (version_of allocator.old)) mini_fat_words [] (seen_of allocator.old)
+        → ChangesAtMost (sector (version_of allocator.old)) mini_fat_words []
+        (seen_of allocator.old)
         (seen_of allocator.new)) }
-    ensures told { OnOk result (IsTrue (is_honest allocator.old)
+    ensures answer { OnOk result (IsTrue (is_honest allocator.old)
         → TellsMiniFat (bytes_of allocator.new) (ids_of links.now)) }
-    ensures live { OnOk result (has_failed_here allocator.new ≡ false) }
-    ensures failed { OnErr result (has_failed_here allocator.new ≡ true) }
-    ensures goes_on { GoesOn allocator.old allocator.new }
-    ensures cause { IfErr result (HasCauseBelow allocator.old allocator.new) }
-    ensures fault { IfErr result (IsFaultUnless ⊥) }
+    ensures not_failed { OnOk result (has_failed_here allocator.new ≡ false) }
+    ensures when_failed { OnErr result (has_failed_here allocator.new ≡ true) }
+    ensures invariants { KeepsFileInvariants allocator.old allocator.new }
+    ensures cause { IfErr result (IsJustifiedBySectors allocator.old allocator.new) }
+    ensures errors { IfErr result (IsFaultOrInvalidInputIf ⊥) }
 {
     let first = start_of(links);
     let count = count_of(links);
@@ -69,20 +70,21 @@ pub(crate) fn grow_table<F: Medium>(
     allocator: &mut Allocator<F>,
     mini_fat: &mut MiniFat,
 ) -> Result<(), Error>
-    ensures grows { OnOk result (HasChain allocator.old mini_fat.old.links
+    ensures grows { OnOk result (HasDataChain allocator.old mini_fat.old.links
         → GrowsTable allocator.old allocator.new mini_fat.old mini_fat.new) }
     ensures kept { OnErr result (has_failed_here allocator.new ≡ false
         → (ids_of mini_fat.new.links ≡ ids_of mini_fat.old.links)
         × (numbers_of mini_fat.new.numbers ≡ numbers_of mini_fat.old.numbers)) }
     ensures version { links_version mini_fat.new.links ≡ links_version mini_fat.old.links }
     ensures stream { mini_fat.new.stream ≡ mini_fat.old.stream }
-    ensures refused { IsErrOf result InvalidData → HasChain allocator.old mini_fat.old.links
+    ensures refused_only_if { IsErrOf result InvalidData
+        → HasDataChain allocator.old mini_fat.old.links
         → IsTrue (orderly_of allocator.old) → ⊥ }
-    ensures full { IsErrOf result Full → has_failed_here allocator.new ≡ false
+    ensures full_only_if { IsErrOf result Full → has_failed_here allocator.new ≡ false
         → LacksSectors allocator.old mini_fat.old.links
         (length (ids_of mini_fat.old.links) + 1) }
-    ensures goes_on { GoesOn allocator.old allocator.new }
-    ensures answers { FatAnswers IsInvalidOrFull result allocator.old allocator.new }
+    ensures invariants { KeepsFileInvariants allocator.old allocator.new }
+    ensures error_contract { FatErrorContract IsInvalidOrFull result allocator.old allocator.new }
 {
     if allocator.is_failed() {
         return Err(Error::Failed);

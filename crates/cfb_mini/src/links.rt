@@ -89,7 +89,7 @@ impl MiniLinks {
     pub(crate) fn reserve_one(&mut self) -> Result<(), Error>
         ensures room { OnOk result (MiniHasRoom self.new) }
         ensures same { minis_of self.new ≡ minis_of self.old }
-        ensures error { IfErr result (λ e. (e ≡ Memory)
+        ensures errors { IfErr result (λ e. (e ≡ Memory)
             ⊎ ((e ≡ Full) × (greatest_regular < length (minis_of self.old)))) }
     {
         if self.mini_sector_ids.len() > MAX_REGULAR_SECTOR as usize {

@@ -1,7 +1,7 @@
 //! Mini sectors over the directory.
-ghost use Rattle.cfb_directory.specs.Views.{entries_held, IsDirectory};
-ghost use Rattle.cfb_fat.specs.Tables.{bytes_of, fat_of, has_failed_here, is_honest, medium_of, version_of, HasCauseBelow};
-ghost use Rattle.cfb_medium.specs.Calls.{Extends, HasCauseSince, IsFaultUnless};
+ghost use Rattle.cfb_directory.specs.Views.{entries_held, DirectoryMatchesBytes};
+ghost use Rattle.cfb_fat.specs.Tables.{bytes_of, fat_of, has_failed_here, is_honest, medium_of, version_of, IsJustifiedBySectors};
+ghost use Rattle.cfb_medium.specs.Calls.{Reaches, IsJustifiedSince, IsFaultOrInvalidInputIf};
 ghost use Rattle.cfb_medium.specs.Versions.{sector_len};
 ghost use Rattle.cfb_medium.specs.declared.error.Error.TheVariants.{Failed, InvalidData, InvalidInput, Memory};
 ghost use Rattle.cfb_chains.specs.ChainCalls.{IsInvalidPlace};
@@ -28,8 +28,8 @@ pub struct MiniAllocator<F: ReadMedium> {
 }
 
 impl<F: ReadMedium> MiniAllocator<F> {
-    ghost use Rattle.cfb_mini.specs.Views.{allocator_of, directory_of, mini_content_of, mini_fat_ids, mini_fat_of, mini_stream_ids, mini_stream_len, IsMini, MiniRests};
-    ghost use Rattle.cfb_directory.specs.Views.{allocator_of as layer_of, DirectoryRests};
+    ghost use Rattle.cfb_mini.specs.Views.{allocator_of, directory_of, mini_content_of, mini_fat_ids, mini_fat_of, mini_stream_ids, mini_stream_len, MiniMatchesBytes, OnlyReadsMini};
+    ghost use Rattle.cfb_directory.specs.Views.{allocator_of as layer_of, OnlyReadsDirectory};
 
     /// Reads the mini FAT from the chain of its first sector, and finds the sectors of the mini stream, which the root's entry
     /// tells. `InvalidData` where there is no such chain. A refusal gives the medium back.
@@ -38,25 +38,25 @@ impl<F: ReadMedium> MiniAllocator<F> {
         mut directory: Directory<F>,
         first_sector: u32,
     ) -> Result<MiniAllocator<F>, (F, Error)>
-        ensures rests { IfOk result (λ it. DirectoryRests directory (directory_of it)) }
+        ensures only_reads { IfOk result (λ it. OnlyReadsDirectory directory (directory_of it)) }
         ensures chain { IfOk result (λ it. IsChain (fat_of (layer_of directory)) first_sector
             (mini_fat_ids it)) }
         ensures stream { IfOk result (λ it. (root : Entry)
             → slice_get (entries_held directory) 0 ≡ Some root
             → IsChain (fat_of (layer_of directory)) root.start (mini_stream_ids it)) }
-        ensures memory { IfOk result (λ it. IsDirectory directory → IsMini it) }
-        ensures refused { IfErr result (λ e. e.1 ≡ InvalidData
+        ensures memory { IfOk result (λ it. DirectoryMatchesBytes directory → MiniMatchesBytes it) }
+        ensures refused_only_if { IfErr result (λ e. e.1 ≡ InvalidData
             → IsTrue (is_honest (layer_of directory)) → (ids stream : List ℕ) (root : Entry)
             → IsChain (fat_of (layer_of directory)) first_sector ids
             → slice_get (entries_held directory) 0 ≡ Some root
             → IsChain (fat_of (layer_of directory)) root.start stream → ⊥) }
-        ensures fault { IfErr result (λ e. IsFaultUnless ⊥ e.1 ⊎ (e.1 ≡ InvalidData)) }
-        ensures cause { IfErr result (λ e. HasCauseSince F.continues F.failures
+        ensures errors { IfErr result (λ e. IsFaultOrInvalidInputIf ⊥ e.1 ⊎ (e.1 ≡ InvalidData)) }
+        ensures cause { IfErr result (λ e. IsJustifiedSince F.continues F.failures
             (λ m. has_failed_here (layer_of directory) || F.failed m)
             (medium_of (layer_of directory)) e.0 e.1) }
         ensures honest { IfErr result (λ e. F.honest e.0
             ≡ F.honest (medium_of (layer_of directory))) }
-        ensures continues { IfErr result (λ e. Extends F.continues
+        ensures continues { IfErr result (λ e. Reaches F.continues
             (medium_of (layer_of directory)) e.0) }
         ensures bytes { IfErr result (λ e. IsTrue (is_honest (layer_of directory))
             → F.bytes e.0 ≡ bytes_of (layer_of directory)) }
@@ -135,7 +135,7 @@ impl<F: ReadMedium> MiniAllocator<F> {
 }
 
 impl<F: ReadMedium> MiniAllocator<F> {
-    ghost use Rattle.cfb_mini.specs.Views.{allocator_of, mini_content_of, mini_fat_of, mini_stream_len, IsMini, MiniRests};
+    ghost use Rattle.cfb_mini.specs.Views.{allocator_of, mini_content_of, mini_fat_of, mini_stream_len, MiniMatchesBytes, OnlyReadsMini};
 
     /// The mini sectors of the chain from a start in the mini FAT. `InvalidData` where there is none, or the mini stream
     /// hasn't one of them ([MS-CFB] 2.4).
@@ -147,7 +147,7 @@ impl<F: ReadMedium> MiniAllocator<F> {
         ensures none { IsErrOf result InvalidData → (minis : List ℕ)
             → IsChain (mini_fat_of self.now) start minis
             → AreInside (mini_stream_len self.now) minis → ⊥ }
-        ensures error { IfErr result (λ e. (e ≡ InvalidData) ⊎ (e ≡ Memory)) }
+        ensures errors { IfErr result (λ e. (e ≡ InvalidData) ⊎ (e ≡ Memory)) }
     {
         self.mini_fat
             .numbers
@@ -163,7 +163,8 @@ impl<F: ReadMedium> MiniAllocator<F> {
         at: u64,
         buffer: &mut [u8],
     ) -> Result<(), Error>
-        ensures read { OnOk result (IsTrue (is_honest (allocator_of self.old)) → IsMini self.old
+        ensures read { OnOk result
+            (IsTrue (is_honest (allocator_of self.old)) → MiniMatchesBytes self.old
             → AreInside (mini_stream_len self.old) (minis_of links.now) → buffer.new
             ≡ take (length buffer.old) (drop at (mini_content_of self.old links.now))) }
         ensures there { OnOk result ((has_failed_here (allocator_of self.old) ≡ false)
@@ -171,13 +172,16 @@ impl<F: ReadMedium> MiniAllocator<F> {
         ensures past { IsErrOf result InvalidInput
             ↔ ((has_failed_here (allocator_of self.old) ≡ false)
             × (64 * length (minis_of links.now) < at + length buffer.old)) }
-        ensures refused { IsErrOf result InvalidData → IsTrue (is_honest (allocator_of self.old))
-            → IsMini self.old → AreInside (mini_stream_len self.old) (minis_of links.now) → ⊥ }
-        ensures failed { has_failed_here (allocator_of self.old) ≡ true → IsErrOf result Failed }
-        ensures rests { MiniRests self.old self.new }
-        ensures cause { IfErr result (HasCauseBelow (allocator_of self.old)
+        ensures refused_only_if { IsErrOf result InvalidData
+            → IsTrue (is_honest (allocator_of self.old))
+            → MiniMatchesBytes self.old → AreInside (mini_stream_len self.old) (minis_of links.now)
+            → ⊥ }
+        ensures when_failed { has_failed_here (allocator_of self.old) ≡ true
+            → IsErrOf result Failed }
+        ensures only_reads { OnlyReadsMini self.old self.new }
+        ensures cause { IfErr result (IsJustifiedBySectors (allocator_of self.old)
             (allocator_of self.new)) }
-        ensures fault { IfErr result (λ e. IsFaultUnless ⊥ e ⊎ IsInvalidPlace e) }
+        ensures errors { IfErr result (λ e. IsFaultOrInvalidInputIf ⊥ e ⊎ IsInvalidPlace e) }
     {
         read_minis(
             self.directory.allocator_mut(),

@@ -1,15 +1,15 @@
 //! Mini sectors that are taken into use ([MS-CFB] 2.4).
 ghost use Rattle.cfb_chains.specs.ChainCalls.{IsInvalidOrFull};
-ghost use Rattle.cfb_chains.specs.Grown.{IsLinked};
-ghost use Rattle.cfb_fat.specs.Calls.{FatAnswers};
-ghost use Rattle.cfb_fat.specs.Tables.{has_failed_here, AllRests, HasCauseBelow};
-ghost use Rattle.cfb_medium.specs.Calls.{IsFaultUnless};
+ghost use Rattle.cfb_chains.specs.Grown.{IsChainInTable};
+ghost use Rattle.cfb_fat.specs.Calls.{FatErrorContract};
+ghost use Rattle.cfb_fat.specs.Tables.{has_failed_here, OnlyReadsAllocator, IsJustifiedBySectors};
+ghost use Rattle.cfb_medium.specs.Calls.{IsFaultOrInvalidInputIf};
 ghost use Rattle.cfb_medium.specs.declared.error.Error.TheVariants.{Full, InvalidData};
 ghost use Rattle.cfb_mini.specs.NumberWrites.{Enters, LiesSo};
 ghost use Rattle.cfb_mini.specs.LinkViews.{minis_of};
 ghost use Rattle.cfb_mini.specs.NumberViews.{numbers_of};
-ghost use Rattle.cfb_mini.specs.NextSector.{linked_behind, linked_pair, HasNumber, IsFreeInside, TakesIn};
-ghost use Rattle.cfb_owned.specs.Chains.{GoesOn, HasChain};
+ghost use Rattle.cfb_mini.specs.NextSector.{linked_behind, linked_pair, HasNumber, IsFreeInside, AllocatesMiniSector};
+ghost use Rattle.cfb_chain_io.specs.ChainEffects.{KeepsFileInvariants, HasDataChain};
 ghost use Rattle.cfb_sectors.specs.Sectors.{greatest_regular};
 ghost use Rattle.std.specs.Prelude.{false, length, true, IfErr, IfOk, IsErrOf, IsTrue, OnErr, OnOk, ℕ, ◌<◌, ◌≡◌, ◌↔◌, ◌⊎◌};
 
@@ -40,17 +40,18 @@ fn link_behind<F: Medium>(
 ) -> Result<(), Error>
     requires there { taken < length (numbers_of mini_fat.old.numbers) }
     requires last { HasNumber (numbers_of mini_fat.old.numbers) last }
-    ensures enters { OnOk result (HasChain allocator.old mini_fat.old.links
+    ensures enters { OnOk result (HasDataChain allocator.old mini_fat.old.links
         → Enters (linked_pair last taken) allocator.old allocator.new mini_fat.old mini_fat.new) }
     ensures set { OnOk result (numbers_of mini_fat.new.numbers
         ≡ linked_behind (numbers_of mini_fat.old.numbers) last taken) }
     ensures lies { LiesSo mini_fat.old mini_fat.new }
-    ensures refused { IsErrOf result InvalidData → HasChain allocator.old mini_fat.old.links → ⊥ }
-    ensures live { OnOk result (has_failed_here allocator.new ≡ false) }
-    ensures failed { OnErr result (has_failed_here allocator.new ≡ true) }
-    ensures goes_on { GoesOn allocator.old allocator.new }
-    ensures cause { IfErr result (HasCauseBelow allocator.old allocator.new) }
-    ensures fault { IfErr result (λ e. IsFaultUnless ⊥ e ⊎ (e ≡ InvalidData)) }
+    ensures refused_only_if { IsErrOf result InvalidData
+        → HasDataChain allocator.old mini_fat.old.links → ⊥ }
+    ensures not_failed { OnOk result (has_failed_here allocator.new ≡ false) }
+    ensures when_failed { OnErr result (has_failed_here allocator.new ≡ true) }
+    ensures invariants { KeepsFileInvariants allocator.old allocator.new }
+    ensures cause { IfErr result (IsJustifiedBySectors allocator.old allocator.new) }
+    ensures errors { IfErr result (λ e. IsFaultOrInvalidInputIf ⊥ e ⊎ (e ≡ InvalidData)) }
 {
     if let Err(error) = set_number(allocator, mini_fat, taken, END_OF_CHAIN) {
         return Err(error);
@@ -72,23 +73,25 @@ pub(crate) fn extend_minis<F: Medium>(
     mini_fat: &mut MiniFat,
     links: &mut MiniLinks,
 ) -> Result<bool, Error>
-    ensures takes { IfOk result (λ took. took ≡ true → HasChain allocator.old mini_fat.old.links
-        → IsLinked (numbers_of mini_fat.old.numbers) (minis_of links.old)
-        → TakesIn allocator.old allocator.new mini_fat.old mini_fat.new (minis_of links.old)
+    ensures takes { IfOk result (λ took. took ≡ true → HasDataChain allocator.old mini_fat.old.links
+        → IsChainInTable (numbers_of mini_fat.old.numbers) (minis_of links.old)
+        → AllocatesMiniSector allocator.old allocator.new mini_fat.old mini_fat.new
+        (minis_of links.old)
         (minis_of links.new)) }
     ensures none { IfOk result (λ took. took ≡ false
-        → AllRests allocator.old allocator.new × (minis_of links.new ≡ minis_of links.old)
+        → OnlyReadsAllocator allocator.old allocator.new × (minis_of links.new ≡ minis_of links.old)
         × (numbers_of mini_fat.new.numbers ≡ numbers_of mini_fat.old.numbers)
         × ((n : ℕ) → IsFreeInside mini_fat.old n → ⊥)) }
     ensures kept { OnErr result (minis_of links.new ≡ minis_of links.old) }
     ensures lies { LiesSo mini_fat.old mini_fat.new }
-    ensures refused { IsErrOf result InvalidData → HasChain allocator.old mini_fat.old.links
-        → IsLinked (numbers_of mini_fat.old.numbers) (minis_of links.old) → ⊥ }
-    ensures full { IsErrOf result Full → greatest_regular < length (minis_of links.old) }
-    ensures rests { OnErr result ((has_failed_here allocator.new ≡ true)
+    ensures refused_only_if { IsErrOf result InvalidData
+        → HasDataChain allocator.old mini_fat.old.links
+        → IsChainInTable (numbers_of mini_fat.old.numbers) (minis_of links.old) → ⊥ }
+    ensures full_only_if { IsErrOf result Full → greatest_regular < length (minis_of links.old) }
+    ensures after_error { OnErr result ((has_failed_here allocator.new ≡ true)
         ⊎ (numbers_of mini_fat.new.numbers ≡ numbers_of mini_fat.old.numbers)) }
-    ensures goes_on { GoesOn allocator.old allocator.new }
-    ensures answers { FatAnswers IsInvalidOrFull result allocator.old allocator.new }
+    ensures invariants { KeepsFileInvariants allocator.old allocator.new }
+    ensures error_contract { FatErrorContract IsInvalidOrFull result allocator.old allocator.new }
 {
     if allocator.is_failed() {
         return Err(Error::Failed);

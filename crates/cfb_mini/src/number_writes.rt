@@ -1,23 +1,23 @@
 //! Numbers of the mini FAT that change, and mini chains that are freed ([MS-CFB] 2.4).
 ghost use Rattle.cfb_chains.specs.ChainCalls.{IsInvalid};
 ghost use Rattle.cfb_chains.specs.Changes.{HaveEntry};
-ghost use Rattle.cfb_fat.specs.Calls.{FatAnswers};
+ghost use Rattle.cfb_fat.specs.Calls.{FatErrorContract};
 ghost use Rattle.cfb_fat.specs.Orderly.{AreBelow};
-ghost use Rattle.cfb_fat.specs.Tables.{has_failed_here, HasCauseBelow};
-ghost use Rattle.cfb_medium.specs.Calls.{IsFaultUnless};
+ghost use Rattle.cfb_fat.specs.Tables.{has_failed_here, IsJustifiedBySectors};
+ghost use Rattle.cfb_medium.specs.Calls.{IsFaultOrInvalidInputIf};
 ghost use Rattle.cfb_medium.specs.declared.error.Error.TheVariants.{InvalidData};
 ghost use Rattle.cfb_mini.specs.NumberWrites.{CutsMinis, Enters, LiesSo};
 ghost use Rattle.cfb_mini.specs.LinkViews.{minis_of};
 ghost use Rattle.cfb_mini.specs.NumberViews.{numbers_of};
-ghost use Rattle.cfb_owned.specs.Chains.{GoesOn, HasChain};
+ghost use Rattle.cfb_chain_io.specs.ChainEffects.{KeepsFileInvariants, HasDataChain};
 ghost use Rattle.cfb_sectors.specs.Sectors.{free};
 ghost use Rattle.std.specs.Prelude.{false, length, slice_set, true, IfErr, IsErrOf, IsTrue, OnErr, OnOk, [], ◌<◌, ◌∷◌, ◌≡◌, ◌≤◌, ◌↔◌, ◌⊎◌};
 
 use crate::MiniLinks;
 use crate::mini_fat::MiniFat;
+use cfb_chain_io::overwrite_chain;
 use cfb_fat::Allocator;
 use cfb_medium::{Error, Medium};
-use cfb_owned::overwrite_chain;
 use cfb_sectors::{END_OF_CHAIN, FREE_SECTOR, HasSectors};
 
 // Whether each is below a limit.
@@ -41,19 +41,20 @@ pub(crate) fn set_number<F: Medium>(
     number: u32,
 ) -> Result<(), Error>
     requires { mini_sector_id < length (numbers_of mini_fat.old.numbers) }
-    ensures enters { OnOk result (HasChain allocator.old mini_fat.old.links
+    ensures enters { OnOk result (HasDataChain allocator.old mini_fat.old.links
         → Enters (mini_sector_id ∷ []) allocator.old allocator.new mini_fat.old mini_fat.new) }
     ensures set { OnOk result (numbers_of mini_fat.new.numbers
         ≡ slice_set (numbers_of mini_fat.old.numbers) mini_sector_id number) }
     ensures size { length (numbers_of mini_fat.new.numbers)
         ≡ length (numbers_of mini_fat.old.numbers) }
     ensures lies { LiesSo mini_fat.old mini_fat.new }
-    ensures refused { IsErrOf result InvalidData → HasChain allocator.old mini_fat.old.links → ⊥ }
-    ensures live { OnOk result (has_failed_here allocator.new ≡ false) }
-    ensures failed { OnErr result (has_failed_here allocator.new ≡ true) }
-    ensures goes_on { GoesOn allocator.old allocator.new }
-    ensures cause { IfErr result (HasCauseBelow allocator.old allocator.new) }
-    ensures fault { IfErr result (λ e. IsFaultUnless ⊥ e ⊎ (e ≡ InvalidData)) }
+    ensures refused_only_if { IsErrOf result InvalidData
+        → HasDataChain allocator.old mini_fat.old.links → ⊥ }
+    ensures not_failed { OnOk result (has_failed_here allocator.new ≡ false) }
+    ensures when_failed { OnErr result (has_failed_here allocator.new ≡ true) }
+    ensures invariants { KeepsFileInvariants allocator.old allocator.new }
+    ensures cause { IfErr result (IsJustifiedBySectors allocator.old allocator.new) }
+    ensures errors { IfErr result (λ e. IsFaultOrInvalidInputIf ⊥ e ⊎ (e ≡ InvalidData)) }
 {
     let bytes = number.to_le_bytes();
     if let Err(error) = overwrite_chain(
@@ -78,17 +79,18 @@ fn set_numbers<F: Medium>(
 ) -> Result<(), Error>
     requires live { has_failed_here allocator.old ≡ false }
     requires there { AreBelow (length (numbers_of mini_fat.old.numbers)) mini_sector_ids.now }
-    ensures enters { OnOk result (HasChain allocator.old mini_fat.old.links
+    ensures enters { OnOk result (HasDataChain allocator.old mini_fat.old.links
         → Enters mini_sector_ids.now allocator.old allocator.new mini_fat.old mini_fat.new) }
     ensures set { OnOk result (HaveEntry number (numbers_of mini_fat.new.numbers)
         mini_sector_ids.now) }
     ensures lies { LiesSo mini_fat.old mini_fat.new }
-    ensures refused { IsErrOf result InvalidData → HasChain allocator.old mini_fat.old.links → ⊥ }
-    ensures live { OnOk result (has_failed_here allocator.new ≡ false) }
-    ensures failed { OnErr result (has_failed_here allocator.new ≡ true) }
-    ensures goes_on { GoesOn allocator.old allocator.new }
-    ensures cause { IfErr result (HasCauseBelow allocator.old allocator.new) }
-    ensures fault { IfErr result (λ e. IsFaultUnless ⊥ e ⊎ (e ≡ InvalidData)) }
+    ensures refused_only_if { IsErrOf result InvalidData
+        → HasDataChain allocator.old mini_fat.old.links → ⊥ }
+    ensures not_failed { OnOk result (has_failed_here allocator.new ≡ false) }
+    ensures when_failed { OnErr result (has_failed_here allocator.new ≡ true) }
+    ensures invariants { KeepsFileInvariants allocator.old allocator.new }
+    ensures cause { IfErr result (IsJustifiedBySectors allocator.old allocator.new) }
+    ensures errors { IfErr result (λ e. IsFaultOrInvalidInputIf ⊥ e ⊎ (e ≡ InvalidData)) }
 {
     'set: for id in mini_sector_ids {
         if let Err(error) = set_number(allocator, mini_fat, *id, number) {
@@ -105,19 +107,20 @@ pub(crate) fn free_minis<F: Medium>(
     mini_fat: &mut MiniFat,
     links: &mut MiniLinks,
 ) -> Result<(), Error>
-    ensures enters { OnOk result (HasChain allocator.old mini_fat.old.links
+    ensures enters { OnOk result (HasDataChain allocator.old mini_fat.old.links
         → Enters (minis_of links.old) allocator.old allocator.new mini_fat.old mini_fat.new) }
     ensures freed { OnOk result (HaveEntry free (numbers_of mini_fat.new.numbers)
         (minis_of links.old)) }
     ensures emptied { OnOk result (minis_of links.new ≡ []) }
     ensures kept { OnErr result (minis_of links.new ≡ minis_of links.old) }
     ensures lies { LiesSo mini_fat.old mini_fat.new }
-    ensures refused { IsErrOf result InvalidData → HasChain allocator.old mini_fat.old.links
+    ensures refused_only_if { IsErrOf result InvalidData
+        → HasDataChain allocator.old mini_fat.old.links
         → AreBelow (length (numbers_of mini_fat.old.numbers)) (minis_of links.old) → ⊥ }
-    ensures rests { OnErr result ((has_failed_here allocator.new ≡ true)
+    ensures after_error { OnErr result ((has_failed_here allocator.new ≡ true)
         ⊎ (numbers_of mini_fat.new.numbers ≡ numbers_of mini_fat.old.numbers)) }
-    ensures goes_on { GoesOn allocator.old allocator.new }
-    ensures answers { FatAnswers IsInvalid result allocator.old allocator.new }
+    ensures invariants { KeepsFileInvariants allocator.old allocator.new }
+    ensures error_contract { FatErrorContract IsInvalid result allocator.old allocator.new }
 {
     if allocator.is_failed() {
         return Err(Error::Failed);
@@ -144,15 +147,16 @@ fn end_behind<F: Medium>(
     requires there { AreBelow (length (numbers_of mini_fat.old.numbers)) (minis_of links.old) }
     requires some { 0 < count }
     requires fewer { count < length (minis_of links.old) }
-    ensures cuts { OnOk result (HasChain allocator.old mini_fat.old.links
+    ensures cuts { OnOk result (HasDataChain allocator.old mini_fat.old.links
         → CutsMinis count allocator.old allocator.new mini_fat.old mini_fat.new
         (minis_of links.old) (minis_of links.new)) }
     ensures kept { OnErr result (minis_of links.new ≡ minis_of links.old) }
     ensures lies { LiesSo mini_fat.old mini_fat.new }
-    ensures refused { IsErrOf result InvalidData → HasChain allocator.old mini_fat.old.links → ⊥ }
-    ensures failed { OnErr result (has_failed_here allocator.new ≡ true) }
-    ensures goes_on { GoesOn allocator.old allocator.new }
-    ensures answers { FatAnswers IsInvalid result allocator.old allocator.new }
+    ensures refused_only_if { IsErrOf result InvalidData
+        → HasDataChain allocator.old mini_fat.old.links → ⊥ }
+    ensures when_failed { OnErr result (has_failed_here allocator.new ≡ true) }
+    ensures invariants { KeepsFileInvariants allocator.old allocator.new }
+    ensures error_contract { FatErrorContract IsInvalid result allocator.old allocator.new }
 {
     let last = links.mini_sector_ids()[count - 1];
     if let Err(error) = set_number(allocator, mini_fat, last, END_OF_CHAIN) {
@@ -174,17 +178,18 @@ pub(crate) fn cut_minis<F: Medium>(
     links: &mut MiniLinks,
     count: usize,
 ) -> Result<(), Error>
-    ensures cuts { OnOk result (HasChain allocator.old mini_fat.old.links
+    ensures cuts { OnOk result (HasDataChain allocator.old mini_fat.old.links
         → CutsMinis count allocator.old allocator.new mini_fat.old mini_fat.new
         (minis_of links.old) (minis_of links.new)) }
     ensures kept { OnErr result (minis_of links.new ≡ minis_of links.old) }
     ensures lies { LiesSo mini_fat.old mini_fat.new }
-    ensures refused { IsErrOf result InvalidData → HasChain allocator.old mini_fat.old.links
+    ensures refused_only_if { IsErrOf result InvalidData
+        → HasDataChain allocator.old mini_fat.old.links
         → AreBelow (length (numbers_of mini_fat.old.numbers)) (minis_of links.old) → ⊥ }
-    ensures rests { OnErr result ((has_failed_here allocator.new ≡ true)
+    ensures after_error { OnErr result ((has_failed_here allocator.new ≡ true)
         ⊎ (numbers_of mini_fat.new.numbers ≡ numbers_of mini_fat.old.numbers)) }
-    ensures goes_on { GoesOn allocator.old allocator.new }
-    ensures answers { FatAnswers IsInvalid result allocator.old allocator.new }
+    ensures invariants { KeepsFileInvariants allocator.old allocator.new }
+    ensures error_contract { FatErrorContract IsInvalid result allocator.old allocator.new }
 {
     if count == 0 {
         return free_minis(allocator, mini_fat, links);

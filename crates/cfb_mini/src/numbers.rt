@@ -104,7 +104,7 @@ impl MiniNumbers {
         ensures grown { OnOk result (numbers_of self.new
             ≡ numbers_of self.old ++ replicate count free) }
         ensures kept { OnErr result (numbers_of self.new ≡ numbers_of self.old) }
-        ensures error { IfErr result (λ e. e ≡ Memory) }
+        ensures errors { IfErr result (λ e. e ≡ Memory) }
     {
         let len = self.items.len();
         let Some(wanted) = len.checked_add(count) else {
@@ -138,7 +138,7 @@ impl MiniNumbers {
         ensures inside { IfOk result (λ links. AreInside len (minis_of links)) }
         ensures none { IsErrOf result InvalidData → (minis : List ℕ)
             → IsChain (numbers_of self.now) start minis → AreInside len minis → ⊥ }
-        ensures error { IfErr result (λ e. (e ≡ InvalidData) ⊎ (e ≡ Memory)) }
+        ensures errors { IfErr result (λ e. (e ≡ InvalidData) ⊎ (e ≡ Memory)) }
     {
         let mini_sector_ids = chain_in(alloc, &self.items, start)?;
         if !are_inside(len, &mini_sector_ids) {

@@ -1,6 +1,6 @@
 //! Where the bytes of a mini chain stand in the mini stream ([MS-CFB] 2.4).
 ghost use Rattle.cfb_mini.specs.LinkViews.{minis_of};
-ghost use Rattle.cfb_owned.specs.Chains.{len_of};
+ghost use Rattle.cfb_chain_io.specs.ChainEffects.{len_of};
 ghost use Rattle.std.specs.Prelude.{length, slice_index, IsTrue, ◌%◌, ◌*◌, ◌+◌, ◌-◌, ◌/◌, ◌<◌, ◌≡◌, ◌≤◌, ◌↔◌, ◌^◌};
 
 use crate::MiniLinks;

@@ -1,19 +1,19 @@
 //! The bytes of a mini chain, read.
 ghost use Rattle.cfb_chains.specs.ChainCalls.{IsInvalidPlace};
-ghost use Rattle.cfb_fat.specs.Tables.{has_failed_here, AllRests, HasCauseBelow};
-ghost use Rattle.cfb_medium.specs.Calls.{IsFaultUnless};
+ghost use Rattle.cfb_fat.specs.Tables.{has_failed_here, OnlyReadsAllocator, IsJustifiedBySectors};
+ghost use Rattle.cfb_medium.specs.Calls.{IsFaultOrInvalidInputIf};
 ghost use Rattle.cfb_medium.specs.declared.error.Error.TheVariants.{Failed, InvalidData, InvalidInput};
 ghost use Rattle.cfb_mini.specs.LinkViews.{minis_of};
 ghost use Rattle.cfb_mini.specs.Minis.{mini_joined, AreInside};
-ghost use Rattle.cfb_owned.specs.Chains.{content_of, len_of, HasLinks};
+ghost use Rattle.cfb_chain_io.specs.ChainEffects.{content_of, len_of, HasFatChain};
 ghost use Rattle.std.specs.Prelude.{drop, false, length, take, true, IfErr, IsErrOf, OnOk, ◌*◌, ◌+◌, ◌<◌, ◌≡◌, ◌≤◌, ◌↔◌, ◌⊎◌};
 
 use crate::MiniLinks;
 use crate::places::{lies_in, spot, stream_len};
+use cfb_chain_io::read_chain;
 use cfb_chains::Links;
 use cfb_fat::Allocator;
 use cfb_medium::{Error, ReadMedium};
-use cfb_owned::read_chain;
 use cfb_sectors::HasSectors;
 
 // Fills the buffer with a mini chain's bytes from a place on, in the mini stream of these sectors. `InvalidInput` where they
@@ -26,7 +26,7 @@ pub(crate) fn read_minis<F: ReadMedium>(
     at: u64,
     buffer: &mut [u8],
 ) -> Result<(), Error>
-    ensures read { OnOk result (HasLinks allocator.old stream.now
+    ensures read { OnOk result (HasFatChain allocator.old stream.now
         → AreInside (len_of stream.now) (minis_of minis.now) → buffer.new
         ≡ take (length buffer.old) (drop at (mini_joined (content_of allocator.old stream.now)
         (minis_of minis.now)))) }
@@ -34,12 +34,12 @@ pub(crate) fn read_minis<F: ReadMedium>(
         × (at + length buffer.old ≤ 64 * length (minis_of minis.now))) }
     ensures past { IsErrOf result InvalidInput ↔ ((has_failed_here allocator.old ≡ false)
         × (64 * length (minis_of minis.now) < at + length buffer.old)) }
-    ensures refused { IsErrOf result InvalidData → HasLinks allocator.old stream.now
+    ensures refused_only_if { IsErrOf result InvalidData → HasFatChain allocator.old stream.now
         → AreInside (len_of stream.now) (minis_of minis.now) → ⊥ }
-    ensures failed { has_failed_here allocator.old ≡ true → IsErrOf result Failed }
-    ensures rests { AllRests allocator.old allocator.new }
-    ensures cause { IfErr result (HasCauseBelow allocator.old allocator.new) }
-    ensures fault { IfErr result (λ e. IsFaultUnless ⊥ e ⊎ IsInvalidPlace e) }
+    ensures when_failed { has_failed_here allocator.old ≡ true → IsErrOf result Failed }
+    ensures only_reads { OnlyReadsAllocator allocator.old allocator.new }
+    ensures cause { IfErr result (IsJustifiedBySectors allocator.old allocator.new) }
+    ensures errors { IfErr result (λ e. IsFaultOrInvalidInputIf ⊥ e ⊎ IsInvalidPlace e) }
 {
     if allocator.is_failed() {
         return Err(Error::Failed);

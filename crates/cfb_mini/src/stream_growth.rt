@@ -1,21 +1,21 @@
 //! The mini stream, made longer ([MS-CFB] 2.6.2).
 ghost use Rattle.cfb_chains.specs.ChainCalls.{IsInvalidOrFull};
-ghost use Rattle.cfb_fat.specs.Calls.{FatAnswers};
+ghost use Rattle.cfb_fat.specs.Calls.{FatErrorContract};
 ghost use Rattle.cfb_fat.specs.Tables.{has_failed_here, orderly_of, version_of};
 ghost use Rattle.cfb_medium.specs.Versions.{sector_len, stream_len_mask};
 ghost use Rattle.cfb_medium.specs.declared.error.Error.TheVariants.{Full, InvalidData};
-ghost use Rattle.cfb_mini.specs.Changing.{GrowsMiniStream, HasOwners};
+ghost use Rattle.cfb_mini.specs.Changing.{GrowsMiniStream, HasUniqueOwners};
 ghost use Rattle.cfb_mini.specs.FatGrowth.{LacksMore};
-ghost use Rattle.cfb_mini.specs.Views.{allocator_of, mini_stream_ids, mini_stream_len, IsMini, MiniRests};
-ghost use Rattle.cfb_owned.specs.Chains.{GoesOn};
+ghost use Rattle.cfb_mini.specs.Views.{allocator_of, mini_stream_ids, mini_stream_len, MiniMatchesBytes, OnlyReadsMini};
+ghost use Rattle.cfb_chain_io.specs.ChainEffects.{KeepsFileInvariants};
 ghost use Rattle.std.specs.Prelude.{false, length, true, IsErrOf, IsTrue, List, OnErr, OnOk, ℕ, ◌+◌, ◌<◌, ◌≡◌, ◌⊎◌};
 
 use crate::MiniAllocator;
 use crate::fat_growth::start_of;
 use crate::places::stream_len;
+use cfb_chain_io::set_chain_len;
 use cfb_directory::EntryChange;
 use cfb_medium::{Error, Medium};
-use cfb_owned::set_chain_len;
 use cfb_sectors::{HasSectors, SectorInit};
 
 impl<F: Medium> MiniAllocator<F> {
@@ -24,19 +24,20 @@ impl<F: Medium> MiniAllocator<F> {
     /// `InvalidData` where the FAT's tables can't be changed or haven't the mini stream's chain, or the directory's. After an
     /// error nothing is changed, or it has failed ([MS-CFB] 2.6.2).
     pub fn grow_mini_stream(&mut self) -> Result<(), Error>
-        ensures grown { OnOk result ((own : ℕ → List ℕ) → HasOwners self.old own
+        ensures grown { OnOk result ((own : ℕ → List ℕ) → HasUniqueOwners self.old own
             → GrowsMiniStream self.old self.new own) }
-        ensures refused { IsErrOf result InvalidData → (own : ℕ → List ℕ) → HasOwners self.old own
+        ensures refused_only_if { IsErrOf result InvalidData → (own : ℕ → List ℕ)
+            → HasUniqueOwners self.old own
             → IsTrue (orderly_of (allocator_of self.old)) → ⊥ }
-        ensures full { IsErrOf result Full → has_failed_here (allocator_of self.new) ≡ false
-            → IsMini self.old
+        ensures full_only_if { IsErrOf result Full → has_failed_here (allocator_of self.new) ≡ false
+            → MiniMatchesBytes self.old
             → LacksMore (allocator_of self.old) (length (mini_stream_ids self.old))
             ⊎ (stream_len_mask (version_of (allocator_of self.old))
             < mini_stream_len self.old + sector_len (version_of (allocator_of self.old))) }
-        ensures rests { OnErr result ((has_failed_here (allocator_of self.new) ≡ true)
-            ⊎ MiniRests self.old self.new) }
-        ensures goes_on { GoesOn (allocator_of self.old) (allocator_of self.new) }
-        ensures answers { FatAnswers IsInvalidOrFull result (allocator_of self.old)
+        ensures after_error { OnErr result ((has_failed_here (allocator_of self.new) ≡ true)
+            ⊎ OnlyReadsMini self.old self.new) }
+        ensures invariants { KeepsFileInvariants (allocator_of self.old) (allocator_of self.new) }
+        ensures error_contract { FatErrorContract IsInvalidOrFull result (allocator_of self.old)
             (allocator_of self.new) }
     {
         if self.directory.allocator().is_failed() {

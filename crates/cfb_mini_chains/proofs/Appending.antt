@@ -9,20 +9,20 @@ use Rattle.cfb_medium.specs.Bytes.{overwritten}
 use Rattle.cfb_medium.specs.Versions.{sector_len}
 use Rattle.cfb_medium.specs.declared.medium.ReadMedium.{Ghosts}
 use Rattle.cfb_sectors.specs.Sectors.{end_of_chain, sector}
-use Rattle.cfb_chains.specs.Changes.{IsNoneOf}
+use Rattle.cfb_chains.specs.Changes.{IsNotIn}
 use Rattle.cfb_chains.specs.LinkViews.{links_version}
-use Rattle.cfb_chains.specs.Owned.{Stays}
+use Rattle.cfb_chains.specs.Owned.{KeepsOwnedSectors}
 use Rattle.cfb_chains.proofs.ChainWriting.{length_within}
 use Rattle.cfb_chains.proofs.Overwriting.{get_before, get_written}
 use Rattle.cfb_fat.specs.Seeing.{seen_of}
 use Rattle.cfb_fat.specs.Tables.{version_of}
 use Rattle.cfb_fat.specs.declared.allocator.Allocator.{Allocator}
-use Rattle.cfb_owned.specs.Chains.{GoesOn}
+use Rattle.cfb_chain_io.specs.ChainEffects.{KeepsFileInvariants}
 use Rattle.cfb_directory.specs.Views as directory
-use Rattle.cfb_mini.specs.Changing.{mini_seen, HasOwners, Lengthens, MiniOverwrites, Shortens, TellsStream}
+use Rattle.cfb_mini.specs.Changing.{mini_seen, HasUniqueOwners, AppendsMiniSectors, MiniOverwrites, Shortens, RootHasMiniStream}
 use Rattle.cfb_mini.specs.LinkViews.{minis_of}
 use Rattle.cfb_mini.specs.Minis.{mini_joined, mini_sector, AreInside, IsMiniChain}
-use Rattle.cfb_mini.specs.Views.{allocator_of, directory_of, mini_content_of, mini_fat_ids, mini_fat_of, mini_stream_ids, mini_stream_len, mini_stream_of, IsMini}
+use Rattle.cfb_mini.specs.Views.{allocator_of, directory_of, mini_content_of, mini_fat_ids, mini_fat_of, mini_stream_ids, mini_stream_len, mini_stream_of, MiniMatchesBytes}
 use Rattle.cfb_mini.specs.declared.links.MiniLinks.{MiniLinks}
 use Rattle.cfb_mini.specs.declared.mini_allocator.MiniAllocator.{MiniAllocator}
 use Rattle.cfb_mini.proofs.KeptFile.{file_then}
@@ -74,13 +74,13 @@ inside_front n count xs inside k below =
     subst (λ m. 64 * m + 64 ≤ n) (sym is) (inside k (omega (arith, below, size)))
 
 module _ {F : Type 0} {g : Ghosts F} where
-  stays_then : (a b c : Allocator F g) (ids now : List ℕ) → version_of b ≡ version_of a → now ≡ ids → Stays (sector (version_of a)) (seen_of a) (seen_of b) ids → Stays (sector (version_of b)) (seen_of b) (seen_of c) now → Stays (sector (version_of a)) (seen_of a) (seen_of c) ids
+  stays_then : (a b c : Allocator F g) (ids now : List ℕ) → version_of b ≡ version_of a → now ≡ ids → KeepsOwnedSectors (sector (version_of a)) (seen_of a) (seen_of b) ids → KeepsOwnedSectors (sector (version_of b)) (seen_of b) (seen_of c) now → KeepsOwnedSectors (sector (version_of a)) (seen_of a) (seen_of c) ids
   unfolding seen_of
   stays_then a b c ids now version same h k =
-      let k' : Stays (sector (version_of a)) (seen_of b) (seen_of c) ids = subst (λ l. Stays (sector (version_of a)) (seen_of b) (seen_of c) l) same (subst (λ v. Stays (sector v) (seen_of b) (seen_of c) now) version k) in
+      let k' : KeepsOwnedSectors (sector (version_of a)) (seen_of b) (seen_of c) ids = subst (λ l. KeepsOwnedSectors (sector (version_of a)) (seen_of b) (seen_of c) l) same (subst (λ v. KeepsOwnedSectors (sector v) (seen_of b) (seen_of c) now) version k) in
       record { linked = k'.linked; beside = k'.beside; bytes = k'.bytes ∙ h.bytes }
 
-  tells_kept : (a b c : MiniAllocator F g) → directory.entries_held (directory_of c) ≡ directory.entries_held (directory_of b) → mini_stream_ids c ≡ mini_stream_ids b → mini_stream_len c ≡ mini_stream_len b → TellsStream a b → TellsStream a c
+  tells_kept : (a b c : MiniAllocator F g) → directory.entries_held (directory_of c) ≡ directory.entries_held (directory_of b) → mini_stream_ids c ≡ mini_stream_ids b → mini_stream_len c ≡ mini_stream_len b → RootHasMiniStream a b → RootHasMiniStream a c
   tells_kept a b c entries ids len h = ⊎_elim
       (λ same. inl (entries ∙ same.0, ids ∙ same.1))
       (λ told. inr (λ e found. entries ∙ told e found
@@ -88,21 +88,21 @@ module _ {F : Type 0} {g : Ghosts F} where
       ∙ ap (λ n. set (directory.entries_held (directory_of a)) 0 (record e { start = slice_index_or (mini_stream_ids c) 0 end_of_chain; size = n })) (sym len)))
       h
 
-  len_same : (b c : MiniAllocator F g) → version_of (allocator_of c) ≡ version_of (allocator_of b) → IsMini b → IsMini c → mini_stream_ids c ≡ mini_stream_ids b → mini_stream_len c ≡ mini_stream_len b
+  len_same : (b c : MiniAllocator F g) → version_of (allocator_of c) ≡ version_of (allocator_of b) → MiniMatchesBytes b → MiniMatchesBytes c → mini_stream_ids c ≡ mini_stream_ids b → mini_stream_len c ≡ mini_stream_len b
   len_same b c version is now ids =
       ap (λ v. length (mini_stream_ids c) * sector_len v) (now.over.stream_version ∙ version ∙ sym is.over.stream_version) ∙ ap (λ l. length l * sector_len (links_version b.mini_fat.stream)) ids
 
-  len_kept : (a b : MiniAllocator F g) (own : ℕ → List ℕ) → GoesOn (allocator_of a) (allocator_of b) → HasOwners a own → HasOwners b own → mini_stream_len b ≡ mini_stream_len a
+  len_kept : (a b : MiniAllocator F g) (own : ℕ → List ℕ) → KeepsFileInvariants (allocator_of a) (allocator_of b) → HasUniqueOwners a own → HasUniqueOwners b own → mini_stream_len b ≡ mini_stream_len a
   len_kept a b own goes h now = len_same a b goes.version h.memory now.memory (sym now.mini_stream ∙ h.mini_stream)
 
   -- the mini FAT has the chain that was written over, and the one that became shorter
-  pub chain_over : (a b : MiniAllocator F g) (links : MiniLinks) (own : ℕ → List ℕ) (at : ℕ) (bytes : List ℕ) → GoesOn (allocator_of a) (allocator_of b) → HasOwners a own → IsMiniChain (mini_fat_of a) (mini_stream_len a) (minis_of links) → MiniOverwrites at bytes a b links own
+  pub chain_over : (a b : MiniAllocator F g) (links : MiniLinks) (own : ℕ → List ℕ) (at : ℕ) (bytes : List ℕ) → KeepsFileInvariants (allocator_of a) (allocator_of b) → HasUniqueOwners a own → IsMiniChain (mini_fat_of a) (mini_stream_len a) (minis_of links) → MiniOverwrites at bytes a b links own
       → IsMiniChain (mini_fat_of b) (mini_stream_len b) (minis_of links)
   unfolding mini_seen
   chain_over a b links own at bytes goes h chain over =
       record { linked = over.changes.becomes.linked; inside = subst (λ n. AreInside n (minis_of links)) (sym (len_kept a b own goes h over.changes.owners)) chain.inside }
 
-  pub chain_fewer : (a b : MiniAllocator F g) (count : ℕ) (minis later : List ℕ) (own : ℕ → List ℕ) → GoesOn (allocator_of a) (allocator_of b) → HasOwners a own → IsMiniChain (mini_fat_of a) (mini_stream_len a) minis → Shortens count a b minis later own
+  pub chain_fewer : (a b : MiniAllocator F g) (count : ℕ) (minis later : List ℕ) (own : ℕ → List ℕ) → KeepsFileInvariants (allocator_of a) (allocator_of b) → HasUniqueOwners a own → IsMiniChain (mini_fat_of a) (mini_stream_len a) minis → Shortens count a b minis later own
       → IsMiniChain (mini_fat_of b) (mini_stream_len b) later
   unfolding mini_seen
   chain_fewer a b count minis later own goes h chain cut =
@@ -112,7 +112,7 @@ module _ {F : Type 0} {g : Ghosts F} where
       }
 
   -- the mini FAT has the chain that became longer, and the mini stream its mini sectors
-  pub chain_then : (a m : MiniAllocator F g) (minis later : List ℕ) (own : ℕ → List ℕ) → HasOwners a own → IsMiniChain (mini_fat_of a) (mini_stream_len a) minis → Lengthens a m minis later own → IsMiniChain (mini_fat_of m) (mini_stream_len m) later
+  pub chain_then : (a m : MiniAllocator F g) (minis later : List ℕ) (own : ℕ → List ℕ) → HasUniqueOwners a own → IsMiniChain (mini_fat_of a) (mini_stream_len a) minis → AppendsMiniSectors a m minis later own → IsMiniChain (mini_fat_of m) (mini_stream_len m) later
   chain_then a m minis later own h chain grown =
       let one = stream_size a own h in
       let two = stream_size m (own_now m own) (lengthened_owners a m minis later own grown) in
@@ -125,14 +125,14 @@ module _ {F : Type 0} {g : Ghosts F} where
       }
 
   -- LAW: a chain became longer, and then all that it took in was written
-  module _ (a m b : MiniAllocator F g) (before after : MiniLinks) (own : ℕ → List ℕ) (bytes : List ℕ) (at : ℕ) (h : HasOwners a own) (chain : IsMiniChain (mini_fat_of a) (mini_stream_len a) (minis_of before))
-      (first : GoesOn (allocator_of a) (allocator_of m)) (grown : Lengthens a m (minis_of before) (minis_of after) own)
-      (written : (then : ℕ → List ℕ) → HasOwners m then → IsMiniChain (mini_fat_of m) (mini_stream_len m) (minis_of after) → MiniOverwrites at bytes m b after then)
-      (second : GoesOn (allocator_of m) (allocator_of b)) (end : at ≡ 64 * length (minis_of before)) (whole : at + length bytes ≡ 64 * length (minis_of after)) where
+  module _ (a m b : MiniAllocator F g) (before after : MiniLinks) (own : ℕ → List ℕ) (bytes : List ℕ) (at : ℕ) (h : HasUniqueOwners a own) (chain : IsMiniChain (mini_fat_of a) (mini_stream_len a) (minis_of before))
+      (first : KeepsFileInvariants (allocator_of a) (allocator_of m)) (grown : AppendsMiniSectors a m (minis_of before) (minis_of after) own)
+      (written : (then : ℕ → List ℕ) → HasUniqueOwners m then → IsMiniChain (mini_fat_of m) (mini_stream_len m) (minis_of after) → MiniOverwrites at bytes m b after then)
+      (second : KeepsFileInvariants (allocator_of m) (allocator_of b)) (end : at ≡ 64 * length (minis_of before)) (whole : at + length bytes ≡ 64 * length (minis_of after)) where
     abbrev now : ℕ → List ℕ
     now = own_now m own
 
-    mid : HasOwners m now
+    mid : HasUniqueOwners m now
     mid = lengthened_owners a m (minis_of before) (minis_of after) own grown
 
     has : IsMiniChain (mini_fat_of m) (mini_stream_len m) (minis_of after)
@@ -163,8 +163,8 @@ module _ {F : Type 0} {g : Ghosts F} where
         over.content ∙ ap (λ l. overwritten l at bytes) all_there
         ∙ over_rest (mini_content_of a before) (mini_joined (mini_stream_of a) grown.taken) bytes at (end ∙ sym long) (omega (arith, end, whole, more, count))
 
-    none_of : (n : ℕ) → IsNoneOf (minis_of after) n → IsNoneOf (minis_of after ++ []) n
-    none_of n none = subst (λ l. IsNoneOf l n) (sym (append-nil (minis_of after))) none
+    none_of : (n : ℕ) → IsNotIn (minis_of after) n → IsNotIn (minis_of after ++ []) n
+    none_of n none = subst (λ l. IsNotIn l n) (sym (append-nil (minis_of after))) none
 
     pub appended : MiniAppends bytes a b before after own
     unfolding mini_seen

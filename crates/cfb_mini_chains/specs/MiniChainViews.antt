@@ -3,10 +3,10 @@ use Rattle.std.specs.Prelude.{◌≡◌, ℕ, ◌*◌, List, length, IsTrue}
 use Rattle.cfb_medium.specs.declared.medium.ReadMedium.{Ghosts}
 use Rattle.cfb_fat.specs.Tables.{is_honest}
 use Rattle.cfb_fat.specs.declared.allocator.Allocator.{Allocator}
-use Rattle.cfb_mini.specs.Changing.{HasOwners}
+use Rattle.cfb_mini.specs.Changing.{HasUniqueOwners}
 use Rattle.cfb_mini.specs.LinkViews.{minis_of}
 use Rattle.cfb_mini.specs.Minis.{AreInside, IsMiniChain}
-use Rattle.cfb_mini.specs.Views.{allocator_of, mini_content_of, mini_fat_of, mini_stream_len, IsMini}
+use Rattle.cfb_mini.specs.Views.{allocator_of, mini_content_of, mini_fat_of, mini_stream_len, MiniMatchesBytes}
 use Rattle.cfb_mini.specs.declared.links.MiniLinks.{MiniLinks}
 use Rattle.cfb_mini.specs.declared.mini_allocator.MiniAllocator.{MiniAllocator}
 use Rattle.cfb_mini_chains.specs.declared.chain.MiniChain.{MiniChain}
@@ -40,12 +40,12 @@ module _ {F : Type 0} {g : Ghosts F} where
   -- memory is that of an honest file's bytes, and the mini stream has each of its mini sectors
   pub record IsReadable (it : MiniChain F g) : Type 0 where
     pub honest : IsTrue (is_honest (allocator_under it))
-    pub memory : IsMini (mini_of it)
+    pub memory : MiniMatchesBytes (mini_of it)
     pub inside : AreInside (mini_stream_len (mini_of it)) (mini_sectors_of it)
 
   -- of the sectors each has one owner at most, and the mini FAT has the whole chain, in the mini stream
-  pub record HasChain (it : MiniChain F g) (own : ℕ → List ℕ) : Type 0 where
-    pub owners : HasOwners (mini_of it) own
+  pub record HasOwnedMiniChain (it : MiniChain F g) (own : ℕ → List ℕ) : Type 0 where
+    pub owners : HasUniqueOwners (mini_of it) own
     pub chain : IsMiniChain (mini_fat_of (mini_of it)) (mini_stream_len (mini_of it)) (mini_sectors_of it)
 
   -- the same chain, lent by the same layer and links

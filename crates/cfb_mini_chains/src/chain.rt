@@ -1,9 +1,9 @@
 //! The bytes of a chain of mini sectors, read from a position on.
 ghost use Rattle.cfb_chains.specs.ChainCalls.{IsInvalidPlace};
-ghost use Rattle.cfb_fat.specs.Tables.{has_failed_here, HasCauseBelow};
-ghost use Rattle.cfb_medium.specs.Calls.{IsFaultUnless};
+ghost use Rattle.cfb_fat.specs.Tables.{has_failed_here, IsJustifiedBySectors};
+ghost use Rattle.cfb_medium.specs.Calls.{IsFaultOrInvalidInputIf};
 ghost use Rattle.cfb_medium.specs.declared.error.Error.TheVariants.{Failed, InvalidData, InvalidInput};
-ghost use Rattle.cfb_mini.specs.Views.{MiniRests};
+ghost use Rattle.cfb_mini.specs.Views.{OnlyReadsMini};
 ghost use Rattle.cfb_sectors.specs.Sectors.{end_of_chain};
 ghost use Rattle.cfb_sectors.specs.Seeking.{Finds, IsNotFound};
 ghost use Rattle.std.specs.Prelude.{drop, false, length, min, slice_index_or, take, true, IfErr, IfOk, IsErrOf, OnErr, OnOk, ℕ, ◌+◌, ◌-◌, ◌<◌, ◌≡◌, ◌⊎◌};
@@ -79,13 +79,13 @@ impl<'a, F: ReadMedium> MiniChain<'a, F> {
         ensures stays { OnErr result (position_of self.new ≡ position_of self.old) }
         ensures same { IsSameMiniChain self.old self.new × (links_of self.new ≡ links_of self.old) }
         ensures past { IsErrOf result InvalidInput → len_of self.old < position_of self.old }
-        ensures refused { IsErrOf result InvalidData → IsReadable self.old → ⊥ }
-        ensures failed { has_failed_here (allocator_under self.old) ≡ true
+        ensures refused_only_if { IsErrOf result InvalidData → IsReadable self.old → ⊥ }
+        ensures when_failed { has_failed_here (allocator_under self.old) ≡ true
             → IsErrOf result Failed }
-        ensures rests { MiniRests (mini_of self.old) (mini_of self.new) }
-        ensures cause { IfErr result (HasCauseBelow (allocator_under self.old)
+        ensures only_reads { OnlyReadsMini (mini_of self.old) (mini_of self.new) }
+        ensures cause { IfErr result (IsJustifiedBySectors (allocator_under self.old)
             (allocator_under self.new)) }
-        ensures fault { IfErr result (λ e. IsFaultUnless ⊥ e ⊎ IsInvalidPlace e) }
+        ensures errors { IfErr result (λ e. IsFaultOrInvalidInputIf ⊥ e ⊎ IsInvalidPlace e) }
     {
         let left = self.links.len().saturating_sub(self.position);
         let count = left.min(buffer.len() as u64) as usize;
@@ -105,8 +105,8 @@ impl<'a, F: ReadMedium> MiniChain<'a, F> {
     pub fn seek(&mut self, from: SeekFrom) -> Result<u64, Error>
         ensures ok { IfOk result (λ n. Finds from (len_of self.old) (position_of self.old) n
             × (position_of self.new ≡ n)) }
-        ensures live { OnOk result (has_failed_here (allocator_under self.old) ≡ false) }
-        ensures error { IfErr result (IsNotFound (has_failed_here (allocator_under self.old)) from
+        ensures not_failed { OnOk result (has_failed_here (allocator_under self.old) ≡ false) }
+        ensures errors { IfErr result (IsNotFound (has_failed_here (allocator_under self.old)) from
             (len_of self.old) (position_of self.old)) }
         ensures stays { OnErr result (position_of self.new ≡ position_of self.old) }
         ensures same { IsSameMiniChain self.old self.new }

@@ -1,14 +1,14 @@
 //! Chains of mini sectors that become longer and shorter.
 ghost use Rattle.cfb_chains.specs.ChainCalls.{IsInvalid, IsInvalidOrFull};
-ghost use Rattle.cfb_fat.specs.Calls.{FatAnswers};
+ghost use Rattle.cfb_fat.specs.Calls.{FatErrorContract};
 ghost use Rattle.cfb_fat.specs.Tables.{has_failed_here};
 ghost use Rattle.cfb_medium.specs.declared.error.Error.TheVariants.{Full, InvalidData};
-ghost use Rattle.cfb_mini.specs.Changing.{Frees, LacksMini, Shortens};
+ghost use Rattle.cfb_mini.specs.Changing.{FreesMiniSectors, LacksMiniSectors, Shortens};
 ghost use Rattle.cfb_mini.specs.Minis.{minis_for};
-ghost use Rattle.cfb_mini.specs.Views.{IsMini};
-ghost use Rattle.cfb_mini_chains.specs.MiniChainCalls.{IsLost, IsUnlinked, Refuses};
+ghost use Rattle.cfb_mini.specs.Views.{MiniMatchesBytes};
+ghost use Rattle.cfb_mini_chains.specs.MiniChainCalls.{LacksMiniChainOrOwner, LacksUsableMiniChain, Refuses};
 ghost use Rattle.cfb_mini_chains.specs.MiniGrowing.{MiniAppends};
-ghost use Rattle.cfb_owned.specs.Chains.{GoesOn};
+ghost use Rattle.cfb_chain_io.specs.ChainEffects.{KeepsFileInvariants};
 ghost use Rattle.cfb_sectors.specs.Sectors.{greatest_regular};
 ghost use Rattle.std.specs.Prelude.{false, length, min, replicate, IsErrOf, List, OnOk, [], ℕ, ◌*◌, ◌+◌, ◌-◌, ◌<◌, ◌≡◌, ◌≤◌, ◌⊎◌};
 
@@ -21,21 +21,23 @@ use cfb_sectors::{MAX_REGULAR_SECTOR, MINI_SECTOR_LEN};
 const MOST: u64 = MAX_REGULAR_SECTOR as u64 + 1;
 
 impl<'a, F: Medium> MiniChain<'a, F> {
-    ghost use Rattle.cfb_mini_chains.specs.MiniChainViews.{allocator_under, len_of, links_of, mini_of, mini_sectors_of, position_of, HasChain, IsSameMiniChain};
+    ghost use Rattle.cfb_mini_chains.specs.MiniChainViews.{allocator_under, len_of, links_of, mini_of, mini_sectors_of, position_of, HasOwnedMiniChain, IsSameMiniChain};
 
     /// Frees the mini sectors of the chain; it has none then, and the position is 0. `InvalidData` where the mini FAT hasn't one of
     /// them, and then nothing is changed, or where the FAT hasn't the mini FAT's chain. After an error nothing is changed, or the
     /// layer has failed ([MS-CFB] 2.4).
     pub fn free(&mut self) -> Result<(), Error>
-        ensures freed { OnOk result ((own : ℕ → List ℕ) → HasChain self.old own
-            → Frees (mini_sectors_of self.old) (mini_of self.old) (mini_of self.new) own) }
+        ensures freed { OnOk result ((own : ℕ → List ℕ) → HasOwnedMiniChain self.old own
+            → FreesMiniSectors (mini_sectors_of self.old) (mini_of self.old)
+            (mini_of self.new) own) }
         ensures emptied { OnOk result ((mini_sectors_of self.new ≡ [])
             × (position_of self.new ≡ 0)) }
         ensures same { IsSameMiniChain self.old self.new }
-        ensures refused { IsErrOf result InvalidData → IsLost self.old }
+        ensures refused_only_if { IsErrOf result InvalidData → LacksMiniChainOrOwner self.old }
         ensures refuses { Refuses result self.old self.new }
-        ensures goes_on { GoesOn (allocator_under self.old) (allocator_under self.new) }
-        ensures answers { FatAnswers IsInvalid result (allocator_under self.old)
+        ensures invariants { KeepsFileInvariants (allocator_under self.old)
+            (allocator_under self.new) }
+        ensures error_contract { FatErrorContract IsInvalid result (allocator_under self.old)
             (allocator_under self.new) }
     {
         if let Err(error) = self.mini.free_mini_chain(self.links) {
@@ -47,16 +49,17 @@ impl<'a, F: Medium> MiniChain<'a, F> {
 
     // Keeps so many mini sectors, those at the front, and frees those behind them. A position behind the new end goes there.
     fn shorten_to(&mut self, count: usize) -> Result<(), Error>
-        ensures shortened { OnOk result ((own : ℕ → List ℕ) → HasChain self.old own
+        ensures shortened { OnOk result ((own : ℕ → List ℕ) → HasOwnedMiniChain self.old own
             → Shortens count (mini_of self.old) (mini_of self.new) (mini_sectors_of self.old)
-            (mini_sectors_of self.new) own × HasChain self.new own) }
+            (mini_sectors_of self.new) own × HasOwnedMiniChain self.new own) }
         ensures position { OnOk result (position_of self.new
             ≡ min (position_of self.old) (len_of self.new)) }
         ensures same { IsSameMiniChain self.old self.new }
-        ensures refused { IsErrOf result InvalidData → IsLost self.old }
+        ensures refused_only_if { IsErrOf result InvalidData → LacksMiniChainOrOwner self.old }
         ensures refuses { Refuses result self.old self.new }
-        ensures goes_on { GoesOn (allocator_under self.old) (allocator_under self.new) }
-        ensures answers { FatAnswers IsInvalid result (allocator_under self.old)
+        ensures invariants { KeepsFileInvariants (allocator_under self.old)
+            (allocator_under self.new) }
+        ensures error_contract { FatErrorContract IsInvalid result (allocator_under self.old)
             (allocator_under self.new) }
     {
         let place = self.position;
@@ -72,20 +75,22 @@ impl<'a, F: Medium> MiniChain<'a, F> {
         requires more { length (mini_sectors_of self.old) < count }
         requires few { count ≤ greatest_regular + 1 }
         requires live { has_failed_here (allocator_under self.old) ≡ false }
-        ensures appended { OnOk result ((own : ℕ → List ℕ) → HasChain self.old own
+        ensures appended { OnOk result ((own : ℕ → List ℕ) → HasOwnedMiniChain self.old own
             → MiniAppends (replicate (64 * (count - length (mini_sectors_of self.old))) 0)
             (mini_of self.old) (mini_of self.new) (links_of self.old) (links_of self.new) own) }
         ensures position { OnOk result (position_of self.new
             ≡ min (position_of self.old) (len_of self.new)) }
         ensures same { IsSameMiniChain self.old self.new }
-        ensures refused { IsErrOf result InvalidData → IsUnlinked self.old }
-        ensures full { IsErrOf result Full → has_failed_here (allocator_under self.new) ≡ false
-            → IsMini (mini_of self.old)
-            → LacksMini (count - length (mini_sectors_of self.old)) (mini_of self.old)
+        ensures refused_only_if { IsErrOf result InvalidData → LacksUsableMiniChain self.old }
+        ensures full_only_if { IsErrOf result Full
+            → has_failed_here (allocator_under self.new) ≡ false
+            → MiniMatchesBytes (mini_of self.old)
+            → LacksMiniSectors (count - length (mini_sectors_of self.old)) (mini_of self.old)
             ⊎ (greatest_regular < length (mini_sectors_of self.old)) }
         ensures refuses { Refuses result self.old self.new }
-        ensures goes_on { GoesOn (allocator_under self.old) (allocator_under self.new) }
-        ensures answers { FatAnswers IsInvalidOrFull result (allocator_under self.old)
+        ensures invariants { KeepsFileInvariants (allocator_under self.old)
+            (allocator_under self.new) }
+        ensures error_contract { FatErrorContract IsInvalidOrFull result (allocator_under self.old)
             (allocator_under self.new) }
     {
         let place = self.position;
@@ -104,24 +109,28 @@ impl<'a, F: Medium> MiniChain<'a, F> {
     /// no room for the mini stream's size. After an error nothing is changed, or the layer has failed ([MS-CFB] 2.4).
     pub fn set_len(&mut self, len: u64) -> Result<(), Error>
         ensures longer { length (mini_sectors_of self.old) < minis_for len → OnOk result ((own : ℕ
-            → List ℕ) → HasChain self.old own
+            → List ℕ) → HasOwnedMiniChain self.old own
             → MiniAppends (replicate (64 * (minis_for len - length (mini_sectors_of self.old))) 0)
             (mini_of self.old) (mini_of self.new) (links_of self.old) (links_of self.new) own) }
         ensures shorter { minis_for len ≤ length (mini_sectors_of self.old)
-            → OnOk result ((own : ℕ → List ℕ) → HasChain self.old own
+            → OnOk result ((own : ℕ → List ℕ) → HasOwnedMiniChain self.old own
             → Shortens (minis_for len) (mini_of self.old) (mini_of self.new)
-            (mini_sectors_of self.old) (mini_sectors_of self.new) own × HasChain self.new own) }
+            (mini_sectors_of self.old) (mini_sectors_of self.new) own
+            × HasOwnedMiniChain self.new own) }
         ensures position { OnOk result (position_of self.new
             ≡ min (position_of self.old) (len_of self.new)) }
         ensures same { IsSameMiniChain self.old self.new }
-        ensures refused { IsErrOf result InvalidData → IsUnlinked self.old }
-        ensures full { IsErrOf result Full → has_failed_here (allocator_under self.new) ≡ false
-            → IsMini (mini_of self.old)
-            → LacksMini (minis_for len - length (mini_sectors_of self.old)) (mini_of self.old)
+        ensures refused_only_if { IsErrOf result InvalidData → LacksUsableMiniChain self.old }
+        ensures full_only_if { IsErrOf result Full
+            → has_failed_here (allocator_under self.new) ≡ false
+            → MiniMatchesBytes (mini_of self.old)
+            → LacksMiniSectors (minis_for len - length (mini_sectors_of self.old))
+            (mini_of self.old)
             ⊎ (greatest_regular + 1 < minis_for len) }
         ensures refuses { Refuses result self.old self.new }
-        ensures goes_on { GoesOn (allocator_under self.old) (allocator_under self.new) }
-        ensures answers { FatAnswers IsInvalidOrFull result (allocator_under self.old)
+        ensures invariants { KeepsFileInvariants (allocator_under self.old)
+            (allocator_under self.new) }
+        ensures error_contract { FatErrorContract IsInvalidOrFull result (allocator_under self.old)
             (allocator_under self.new) }
     {
         let count = len.div_ceil(MINI_SECTOR_LEN as u64);

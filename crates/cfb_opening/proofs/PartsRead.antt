@@ -9,21 +9,21 @@ use Rattle.cfb_sectors.specs.declared.validation.Validation.{Validation}
 use Rattle.cfb_sectors.specs.declared.validation.Validation.TheVariants.{Permissive, Strict}
 use Rattle.cfb_sectors.proofs.OneChain.{chain_unique, difat_unique}
 use Rattle.cfb_fat.proofs.DifatChains.{stop_high}
-use Rattle.cfb_tree.specs.Names.{Letters}
+use Rattle.cfb_tree.specs.Names.{CaseTable}
 use Rattle.cfb_tree.specs.Tree.{Tree}
 use Rattle.cfb_tree.specs.Directory.{entries_of, kind_root, Entry, Holds, Siblings}
 use Rattle.cfb_tree.specs.Entries.{IsColored, HasSize}
 use Rattle.cfb_directory.specs.Taken.{HasAny, IsTakenAs, IsTakenAsRoot, IsTakenIn}
-use Rattle.cfb_meaning.specs.Means.{directory, directory_count, fat, IsLaidOut, IsStrict, Layout, MeansBy}
-use Rattle.cfb_meaning.proofs.OneTree.{filled_unique}
+use Rattle.cfb_spec.specs.Means.{directory, directory_count, fat, IsLaidOut, IsStrict, Layout, BytesMeanTreeBy}
+use Rattle.cfb_spec.proofs.OneTree.{filled_unique}
 use Rattle.cfb_opening.specs.Opened.{CanOpen}
-use Rattle.cfb_opening.specs.Tables.{AreTables, IsExactFor}
+use Rattle.cfb_opening.specs.Tables.{AreSectorTables, IsExactFor}
 use Rattle.cfb_opening.proofs.CutChains.{cut_in_file, cut_of_chain}
 use Rattle.cfb_opening.proofs.TablesRead.{difat_chain_of, lists_of, version_is}
 use Rattle.cfb_opening.proofs.TreesTaken.{all_colored, opens_by, taken_as, OpensBy}
 use Rattle.cfb_fat.proofs.CutChains.{chain_of_cut}
 
-module _ (b : List ℕ) (h : HeaderFields) (header : HasFields h b) (ds : List ℕ) (stop : ℕ) (fs memory : List ℕ) (tables : AreTables h.version b ds stop fs memory) where
+module _ (b : List ℕ) (h : HeaderFields) (header : HasFields h b) (ds : List ℕ) (stop : ℕ) (fs memory : List ℕ) (tables : AreSectorTables h.version b ds stop fs memory) where
   abbrev table : List ℕ
   table = fat_in h.version b fs
 
@@ -65,7 +65,7 @@ module _ (b : List ℕ) (h : HeaderFields) (header : HasFields h b) (ds : List �
     directory_is : directory b l ≡ entries_of h.version (joined h.version b l.directory_sectors)
     directory_is = ap (λ v. entries_of v (joined v b l.directory_sectors)) same_version
 
-  module _ (validation : Validation) (letters : Letters) where
+  module _ (validation : Validation) (letters : CaseTable) where
     pub directory_refused : ((ids : List ℕ) → Chain memory h.first_directory ids → (tree : Tree)
         → IsTakenAs validation letters HasAny (entries_of h.version (joined h.version b ids)) tree → ⊥) → CanOpen validation letters b → ⊥
     directory_refused refused can =
@@ -152,7 +152,7 @@ module _ (b : List ℕ) (h : HeaderFields) (header : HasFields h b) (ds : List �
         mini_stream_in_file = there taken.holds.root.start mini_stream_ids stream_chain;
       }
 
-      pub means : MeansBy layout HasSize letters b tree
+      pub means : BytesMeanTreeBy layout HasSize letters b tree
       means =
           let there = taken.holds in
           record {

@@ -3,10 +3,10 @@ use Rattle.std.proofs.Common.{◌≡◌, ℕ, List, length, arith}
 use native.Mathlib.Decide.{dec_lt}
 use mathlib.Core.Logic.{dite}
 use Rattle.cfb_sectors.specs.Header.{mini_cutoff}
-use Rattle.cfb_tree.specs.Names.{Letters}
+use Rattle.cfb_tree.specs.Names.{CaseTable}
 use Rattle.cfb_tree.specs.Tree.{nothing, storage, stream, Content, Tree}
 use Rattle.cfb_tree.specs.Directory.{Entry, Holds}
-use Rattle.cfb_meaning.specs.Means.{directory, HasBytes, Layout, MeansBy}
+use Rattle.cfb_spec.specs.Means.{directory, HasBytes, Layout, BytesMeanTreeBy}
 
 module _ (Reads Less : Entry → List ℕ → Type 0) (so : (e : Entry) (content : List ℕ) → Reads e content → Less e content) where
   holds_less : (entries : List Entry) (content : Content) (ids all : List ℕ) → Holds entries Reads ids content all → Holds entries Less ids content all
@@ -16,7 +16,7 @@ module _ (Reads Less : Entry → List ℕ → Type 0) (so : (e : Entry) (content
   holds_less entries (storage name facts inside later) ids all (e, id, others, children, within, rest, is, whole, at, siblings, in_it, then) =
       (e, id, others, children, within, rest, is, whole, at, siblings, holds_less entries inside children within in_it, holds_less entries later others rest then)
 
-  pub means_less : (l : Layout) (letters : Letters) (b : List ℕ) (tree : Tree) → MeansBy l Reads letters b tree → MeansBy l Less letters b tree
+  pub means_less : (l : Layout) (letters : CaseTable) (b : List ℕ) (tree : Tree) → BytesMeanTreeBy l Reads letters b tree → BytesMeanTreeBy l Less letters b tree
   means_less l letters b tree m = record {
     laid_out = m.laid_out;
     facts = m.facts;

@@ -5,16 +5,16 @@ use Rattle.cfb_medium.specs.Numbers.{u16_at}
 use Rattle.cfb_medium.specs.declared.medium.ReadMedium.{Ghosts}
 use Rattle.cfb_medium.specs.declared.version.Version.{Version}
 use Rattle.cfb_sectors.specs.Header.{first_difat_sector, HasFields, HeaderFields}
-use Rattle.cfb_sectors.specs.Held.{bytes_of, count_of, has_failed_here, medium_of, version_of, AreCounted, IsHonest}
+use Rattle.cfb_sectors.specs.Held.{bytes_of, count_of, has_failed_here, medium_of, version_of, AreSectorNumbers, IsHonest}
 use Rattle.cfb_sectors.specs.Sectors.{difat, fat_in, free, sectors_in, AreInFile, DifatChain}
 use Rattle.cfb_sectors.specs.declared.sectors.Sectors.{Sectors}
 use Rattle.cfb_fat.specs.Listed.{IsStop, Lists}
 use Rattle.cfb_fat.specs.Orderly.{AreBelow}
 use Rattle.cfb_fat.proofs.DifatChains.{below_in_file, in_file_below}
 use Rattle.cfb_fat.proofs.Listing.{lists_same}
-use Rattle.cfb_meaning.specs.Means.{IsLaidOut, Layout}
-use Rattle.cfb_meaning.proofs.OneTree.{version_unique}
-use Rattle.cfb_opening.specs.Tables.{AreTables, OnlyReads}
+use Rattle.cfb_spec.specs.Means.{IsLaidOut, Layout}
+use Rattle.cfb_spec.proofs.OneTree.{version_unique}
+use Rattle.cfb_opening.specs.Tables.{AreSectorTables, OnlyReadsMedium}
 
 in_file_counted : (v : Version) (b ids : List ℕ) (count : ℕ) → count ≡ sectors_in v (length b) → AreInFile v b ids → AllByRecursion (λ n. n < count) ids
 in_file_counted v b [] count is there = tt
@@ -47,7 +47,7 @@ module _ (b : List ℕ) (h : HeaderFields) (header : HasFields h b) (l : Layout)
   }
 
 -- sectors over a medium that begins with a header
-module _ {F : Type 0} {g : Ghosts F} (m : F) (s : Sectors F g) (h : HeaderFields) (reads : OnlyReads g.honest g.bytes g.continues m (medium_of s))
+module _ {F : Type 0} {g : Ghosts F} (m : F) (s : Sectors F g) (h : HeaderFields) (reads : OnlyReadsMedium g.honest g.bytes g.continues m (medium_of s))
     (version : version_of s ≡ h.version) (honest : IsTrue (g.honest m)) (header : HasFields h (g.bytes m)) where
   still : IsHonest s
   still = subst IsTrue (sym reads.as_honest) honest
@@ -69,7 +69,7 @@ module _ {F : Type 0} {g : Ghosts F} (m : F) (s : Sectors F g) (h : HeaderFields
       none still whole l.difat_sectors l.fat_sectors
       (subst (λ v. Lists v (bytes_of s) l.difat_sectors l.fat_sectors) (sym version) (subst (λ b. Lists h.version b l.difat_sectors l.fat_sectors) (sym same) (lists_of (g.bytes m) h header l a)))
 
-  pub fat_refused : has_failed_here s ≡ false → (ds fs : List ℕ) → Lists h.version (g.bytes m) ds fs → ((front : List ℕ) → fs ≡ front ++ free ∷ [] → ⊥) → (AreCounted s fs → ⊥)
+  pub fat_refused : has_failed_here s ≡ false → (ds fs : List ℕ) → Lists h.version (g.bytes m) ds fs → ((front : List ℕ) → fs ≡ front ++ free ∷ [] → ⊥) → (AreSectorNumbers s fs → ⊥)
       → (l : Layout) → IsLaidOut (g.bytes m) l → ⊥
   fat_refused live ds fs lists never missing l a =
       let b = g.bytes m in
@@ -81,7 +81,7 @@ module _ {F : Type 0} {g : Ghosts F} (m : F) (s : Sectors F g) (h : HeaderFields
 
   pub tables_are : has_failed_here s ≡ false → (ds : List ℕ) (stop : ℕ) (fs fat : List ℕ) → Lists h.version (g.bytes m) ds fs
       → IsStop stop → DifatChain h.version (g.bytes m) (first_difat_sector (g.bytes m)) ds stop
-      → AreCounted s fs → (IsHonest s → fat ≡ take (count_of s) (fat_in (version_of s) (bytes_of s) fs)) → AreTables h.version (g.bytes m) ds stop fs fat
+      → AreSectorNumbers s fs → (IsHonest s → fat ≡ take (count_of s) (fat_in (version_of s) (bytes_of s) fs)) → AreSectorTables h.version (g.bytes m) ds stop fs fat
   tables_are live ds stop fs fat lists stops chain there is = record {
     stops = stops;
     chain = chain;

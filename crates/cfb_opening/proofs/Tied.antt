@@ -5,21 +5,21 @@ use Rattle.cfb_medium.specs.declared.medium.ReadMedium.{Ghosts}
 use Rattle.cfb_sectors.specs.Header.{HasFields, HeaderFields}
 use Rattle.cfb_sectors.specs.Sectors.{fat_in, joined, Chain}
 use Rattle.cfb_sectors.specs.declared.validation.Validation.{Validation}
-use Rattle.cfb_fat.specs.Tables.{bytes_of, difat_sectors_of, fat_of, fat_sectors_of, has_failed_here, is_honest, medium_of, sectors_of, version_of, AllRests}
+use Rattle.cfb_fat.specs.Tables.{bytes_of, difat_sectors_of, fat_of, fat_sectors_of, has_failed_here, is_honest, medium_of, sectors_of, version_of, OnlyReadsAllocator}
 use Rattle.cfb_fat.specs.declared.allocator.Allocator.{Allocator}
-use Rattle.cfb_tree.specs.Names.{Letters}
+use Rattle.cfb_tree.specs.Names.{CaseTable}
 use Rattle.cfb_tree.specs.Tree.{Tree}
 use Rattle.cfb_tree.specs.Directory.{entries_of, Entry}
 use Rattle.cfb_tree.specs.Entries.{HasSize}
 use Rattle.cfb_directory.specs.Taken.{HasAny, IsTakenAs}
-use Rattle.cfb_directory.specs.Views.{directory_ids, entries_held, IsDirectory}
+use Rattle.cfb_directory.specs.Views.{directory_ids, entries_held, DirectoryMatchesBytes}
 use Rattle.cfb_directory.specs.Views as layer
 use Rattle.cfb_directory.specs.declared.directory.Directory.{Directory}
-use Rattle.cfb_mini.specs.Views.{allocator_of, directory_of, mini_fat_ids, mini_stream_ids, IsMini}
+use Rattle.cfb_mini.specs.Views.{allocator_of, directory_of, mini_fat_ids, mini_stream_ids, MiniMatchesBytes}
 use Rattle.cfb_mini.specs.declared.mini_allocator.MiniAllocator.{MiniAllocator}
-use Rattle.cfb_meaning.specs.Means.{Layout}
+use Rattle.cfb_spec.specs.Means.{Layout}
 use Rattle.cfb_opening.specs.Opened.{CanOpen, IsOpened}
-use Rattle.cfb_opening.specs.Tables.{AreTables, IsExactFor, OnlyReads}
+use Rattle.cfb_opening.specs.Tables.{AreSectorTables, IsExactFor, OnlyReadsMedium}
 use Rattle.cfb_opening.proofs.PartsRead.{directory_refused, layout, means, mini_refused, strict, strict_refused}
 use Rattle.cfb_opening.proofs.ReadsInTurn.{sectors_read}
 
@@ -27,16 +27,16 @@ module _ {F : Type 0} {g : Ghosts F} (m : F) (h : HeaderFields) (a : Allocator F
   -- reads alone came between, and the tables are the same
   pub record IsTied (x : Allocator F g) : Type 0 where
     pub live : has_failed_here x ≡ false
-    pub reads : OnlyReads g.honest g.bytes g.continues m (medium_of x)
+    pub reads : OnlyReadsMedium g.honest g.bytes g.continues m (medium_of x)
     pub version : version_of x ≡ h.version
     pub fat : fat_of x ≡ fat_of a
     pub fat_sectors : fat_sectors_of x ≡ fat_sectors_of a
     pub difat_sectors : difat_sectors_of x ≡ difat_sectors_of a
 
-  pub tied_first : has_failed_here a ≡ false → OnlyReads g.honest g.bytes g.continues m (medium_of a) → version_of a ≡ h.version → IsTied a
+  pub tied_first : has_failed_here a ≡ false → OnlyReadsMedium g.honest g.bytes g.continues m (medium_of a) → version_of a ≡ h.version → IsTied a
   tied_first live reads version = record { live = live; reads = reads; version = version; fat = refl; fat_sectors = refl; difat_sectors = refl }
 
-  pub tied_after : (x y : Allocator F g) → IsTied x → AllRests x y → IsTied y
+  pub tied_after : (x y : Allocator F g) → IsTied x → OnlyReadsAllocator x y → IsTied y
   tied_after x y t r = record {
     live = r.sectors.failed ∙ t.live;
     reads = sectors_read m (sectors_of x) (sectors_of y) t.reads r.sectors;
@@ -47,7 +47,7 @@ module _ {F : Type 0} {g : Ghosts F} (m : F) (h : HeaderFields) (a : Allocator F
   }
 
   module _ (honest : IsTrue (g.honest m)) (header : HasFields h (g.bytes m)) (stop : ℕ)
-      (tables : AreTables h.version (g.bytes m) (difat_sectors_of a) stop (fat_sectors_of a) (fat_of a)) (validation : Validation) (letters : Letters) where
+      (tables : AreSectorTables h.version (g.bytes m) (difat_sectors_of a) stop (fat_sectors_of a) (fat_of a)) (validation : Validation) (letters : CaseTable) where
     abbrev b : List ℕ
     b = g.bytes m
 
@@ -57,7 +57,7 @@ module _ {F : Type 0} {g : Ghosts F} (m : F) (h : HeaderFields) (a : Allocator F
     entries_at : (x : Allocator F g) → IsTied x → (ids : List ℕ) → entries_of (version_of x) (joined (version_of x) (bytes_of x) ids) ≡ entries_of h.version (joined h.version b ids)
     entries_at x t ids = ap (λ v. entries_of v (joined v (bytes_of x) ids)) t.version ∙ ap (λ l. entries_of h.version (joined h.version l ids)) (t.reads.same honest)
 
-    held_at : (d : Directory F g) → IsTied (layer.allocator_of d) → IsDirectory d → entries_held d ≡ entries_of h.version (joined h.version b (directory_ids d))
+    held_at : (d : Directory F g) → IsTied (layer.allocator_of d) → DirectoryMatchesBytes d → entries_held d ≡ entries_of h.version (joined h.version b (directory_ids d))
     held_at d t is = is.entries t.live (still (layer.allocator_of d) t) ∙ entries_at (layer.allocator_of d) t (directory_ids d)
 
     pub no_directory : IsTied a → (IsTrue (is_honest a) → (ids : List ℕ) → Chain (fat_of a) h.first_directory ids → (tree : Tree)
@@ -66,7 +66,7 @@ module _ {F : Type 0} {g : Ghosts F} (m : F) (h : HeaderFields) (a : Allocator F
         directory_refused b h header (difat_sectors_of a) stop (fat_sectors_of a) (fat_of a) tables validation letters
         (λ ids chain tree taken. refused (still a t) ids chain tree (subst (λ es. IsTakenAs validation letters HasAny es tree) (sym (entries_at a t ids)) taken))
 
-    pub no_mini : (d : Directory F g) → IsTied (layer.allocator_of d) → IsDirectory d → Chain (fat_of a) h.first_directory (directory_ids d)
+    pub no_mini : (d : Directory F g) → IsTied (layer.allocator_of d) → DirectoryMatchesBytes d → Chain (fat_of a) h.first_directory (directory_ids d)
         → (IsTrue (is_honest (layer.allocator_of d)) → (ids stream : List ℕ) (root : Entry) → Chain (fat_of (layer.allocator_of d)) h.first_mini_fat ids → slice_get (entries_held d) 0 ≡ Some root
         → Chain (fat_of (layer.allocator_of d)) root.start stream → ⊥) → CanOpen validation letters b → ⊥
     no_mini d t is chain refused =
@@ -105,7 +105,7 @@ module _ {F : Type 0} {g : Ghosts F} (m : F) (h : HeaderFields) (a : Allocator F
 
       pub opened : (len : ℕ) → len ≡ length b
           → IsExactFor validation h stop len (length (directory_ids (directory_of it))) (length (fat_sectors_of (allocator_of it))) (length (mini_fat_ids it)) (length (difat_sectors_of (allocator_of it)))
-          → IsMini it → (tree : Tree) (taken : IsTakenAs validation letters HasSize (entries_held (directory_of it)) tree)
+          → MiniMatchesBytes it → (tree : Tree) (taken : IsTakenAs validation letters HasSize (entries_held (directory_of it)) tree)
           → ((root : Entry) → slice_get (entries_held (directory_of it)) 0 ≡ Some root → Chain (fat_of a) root.start (mini_stream_ids it))
           → (l : Layout) × (tree : Tree) × IsOpened validation letters b it l tree
       opened len is exact mini tree taken streams =

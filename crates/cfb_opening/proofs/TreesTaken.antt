@@ -4,23 +4,23 @@ use Rattle.std.specs.Prelude.{slice_get, Option, None, Some, IfSome}
 use Rattle.std.specs.List.{AllByRecursion}
 use Rattle.cfb_sectors.specs.declared.validation.Validation.{Validation}
 use Rattle.cfb_sectors.specs.declared.validation.Validation.TheVariants.{Permissive, Strict}
-use Rattle.cfb_tree.specs.Names.{Letters}
+use Rattle.cfb_tree.specs.Names.{CaseTable}
 use Rattle.cfb_tree.specs.Tree.{nothing, storage, stream, Content, Tree}
 use Rattle.cfb_tree.specs.Directory.{black, kind_storage, kind_stream, red, Entry, Holds}
 use Rattle.cfb_tree.specs.Entries.{IsBlackAt, IsColored}
 use Rattle.cfb_tree.proofs.NamesRead.{all_append}
 use Rattle.cfb_directory.specs.Taken.{HasAny, IsTakenAs, IsTakenAsRoot, IsTakenIn}
-use Rattle.cfb_meaning.specs.Means.{directory, IsStrict, Layout, MeansBy}
+use Rattle.cfb_spec.specs.Means.{directory, IsStrict, Layout, BytesMeanTreeBy}
 use Rattle.cfb_opening.specs.Opened.{CanOpen}
 
 -- a layout in which the bytes mean a tree, and what a strict reader asks of it
-pub record OpensBy (validation : Validation) (letters : Letters) (b : List ℕ) : Type 0 where
+pub record OpensBy (validation : Validation) (letters : CaseTable) (b : List ℕ) : Type 0 where
   pub l : Layout
   pub tree : Tree
-  pub means : MeansBy l HasAny letters b tree
+  pub means : BytesMeanTreeBy l HasAny letters b tree
   pub strict : validation ≡ Strict → IsStrict b l
 
-pub opens_by : (validation : Validation) (letters : Letters) (b : List ℕ) → CanOpen validation letters b → OpensBy validation letters b
+pub opens_by : (validation : Validation) (letters : CaseTable) (b : List ℕ) → CanOpen validation letters b → OpensBy validation letters b
 opens_by Permissive letters b (l, tree, means) = record { l = l; tree = tree; means = means; strict = λ wrong. absurd (cc) }
 opens_by Strict letters b (l, tree, means, strict) = record { l = l; tree = tree; means = means; strict = λ is. strict }
 
@@ -58,7 +58,7 @@ pub all_colored : (entries : List Entry) (ids : List ℕ) → AllByRecursion (λ
 all_colored entries [] taken = tt
 all_colored entries (id ∷ ids) taken = (colored entries (slice_get entries id) taken.0, all_colored entries ids taken.1)
 
-module _ (letters : Letters) (b : List ℕ) (l : Layout) (tree : Tree) (means : MeansBy l HasAny letters b tree) where
+module _ (letters : CaseTable) (b : List ℕ) (l : Layout) (tree : Tree) (means : BytesMeanTreeBy l HasAny letters b tree) where
   root_taken : (validation : Validation) → (validation ≡ Strict → IsStrict b l) → IsTakenAsRoot validation l.root
   root_taken Permissive strict = means.laid_out.root_kind
   root_taken Strict strict = let is = strict refl in ((means.laid_out.root_kind, is.root_color), is.root_name)

@@ -1,6 +1,6 @@
 -- Header, DIFAT and FAT of a file, as they are read before its directory ([MS-CFB] 2.2 to 2.5).
 use Rattle.std.specs.Prelude.{◌≡◌, ◌%◌, ℕ, Bool, List, length, take, IsTrue, ⊤}
-use Rattle.cfb_medium.specs.Calls.{Extends}
+use Rattle.cfb_medium.specs.Calls.{Reaches}
 use Rattle.cfb_medium.specs.Versions.{sector_len}
 use Rattle.cfb_medium.specs.declared.version.Version.{Version}
 use Rattle.cfb_sectors.specs.Header.{first_difat_sector, HeaderFields}
@@ -8,17 +8,17 @@ use Rattle.cfb_sectors.specs.Sectors.{end_of_chain, fat_in, sectors_in, AreInFil
 use Rattle.cfb_sectors.specs.declared.validation.Validation.{Validation}
 use Rattle.cfb_sectors.specs.declared.validation.Validation.TheVariants.{Permissive, Strict}
 use Rattle.cfb_fat.specs.Listed.{IsStop, Lists}
-use Rattle.cfb_meaning.specs.Means.{directory_count}
+use Rattle.cfb_spec.specs.Means.{directory_count}
 
 -- nothing but reads of a medium was done
-pub record OnlyReads {M : Type 0} (honest : M → Bool) (bytes : M → List ℕ) (continues : M → M → Type 0) (old new : M) : Type 0 where
+pub record OnlyReadsMedium {M : Type 0} (honest : M → Bool) (bytes : M → List ℕ) (continues : M → M → Type 0) (old new : M) : Type 0 where
   pub as_honest : honest new ≡ honest old
   pub same : IsTrue (honest old) → bytes new ≡ bytes old
-  pub extends : Extends continues old new
+  pub extends : Reaches continues old new
 
 -- these sectors are the DIFAT's, whose chain comes to the stop, and those are the FAT's, which the file has; and this is the FAT,
 -- for the file's sectors alone ([MS-CFB] 2.3, 2.5)
-pub record AreTables (version : Version) (bytes difat_sectors : List ℕ) (difat_stop : ℕ) (fat_sectors fat : List ℕ) : Type 0 where
+pub record AreSectorTables (version : Version) (bytes difat_sectors : List ℕ) (difat_stop : ℕ) (fat_sectors fat : List ℕ) : Type 0 where
   pub stops : IsStop difat_stop
   pub chain : DifatChain version bytes (first_difat_sector bytes) difat_sectors difat_stop
   pub lists : Lists version bytes difat_sectors fat_sectors

@@ -1,10 +1,10 @@
 //! Opening a compound file ([MS-CFB] 2).
-ghost use Rattle.cfb_meaning.specs.Means.{Layout};
-ghost use Rattle.cfb_medium.specs.Calls.{HasCauseSince, IsFaultUnless};
+ghost use Rattle.cfb_spec.specs.Means.{Layout};
+ghost use Rattle.cfb_medium.specs.Calls.{IsJustifiedSince, IsFaultOrInvalidInputIf};
 ghost use Rattle.cfb_medium.specs.declared.error.Error.TheVariants.{InvalidData};
 ghost use Rattle.cfb_opening.specs.Opened.{CanOpen, IsOpened, OpensAt};
-ghost use Rattle.cfb_opening.specs.Tables.{OnlyReads};
-ghost use Rattle.cfb_tree.specs.LetterViews.{letters_of};
+ghost use Rattle.cfb_opening.specs.Tables.{OnlyReadsMedium};
+ghost use Rattle.cfb_tree.specs.CaseTableViews.{case_table_of};
 ghost use Rattle.cfb_tree.specs.Tree.{Tree};
 ghost use Rattle.std.specs.Prelude.{IfErr, IfOk, IsTrue, ◌≡◌, ◌⊎◌};
 
@@ -30,13 +30,13 @@ pub fn open_file<F: ReadMedium>(
 ) -> Result<MiniAllocator<F>, (F, Error)>
     ensures opens { IfOk result (OpensAt medium) }
     ensures opened { IfOk result (λ it. IsTrue (F.honest medium) → (l : Layout) × (tree : Tree)
-        × IsOpened validation (letters_of letters.now) (F.bytes medium) it l tree) }
-    ensures refused { IfErr result (λ e. e.1 ≡ InvalidData → IsTrue (F.honest medium)
-        → CanOpen validation (letters_of letters.now) (F.bytes medium) → ⊥) }
-    ensures fault { IfErr result (λ e. IsFaultUnless ⊥ e.1 ⊎ (e.1 ≡ InvalidData)) }
-    ensures cause { IfErr result (λ e. HasCauseSince F.continues F.failures F.failed medium
+        × IsOpened validation (case_table_of letters.now) (F.bytes medium) it l tree) }
+    ensures refused_only_if { IfErr result (λ e. e.1 ≡ InvalidData → IsTrue (F.honest medium)
+        → CanOpen validation (case_table_of letters.now) (F.bytes medium) → ⊥) }
+    ensures errors { IfErr result (λ e. IsFaultOrInvalidInputIf ⊥ e.1 ⊎ (e.1 ≡ InvalidData)) }
+    ensures cause { IfErr result (λ e. IsJustifiedSince F.continues F.failures F.failed medium
         e.0 e.1) }
-    ensures left { IfErr result (λ e. OnlyReads F.honest F.bytes F.continues medium e.0) }
+    ensures left { IfErr result (λ e. OnlyReadsMedium F.honest F.bytes F.continues medium e.0) }
 {
     let Tables {
         header,

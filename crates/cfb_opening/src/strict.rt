@@ -2,7 +2,7 @@
 ghost use Rattle.cfb_directory.specs.Views.{directory_ids};
 ghost use Rattle.cfb_fat.specs.Tables.{difat_sectors_of, fat_sectors_of};
 ghost use Rattle.cfb_medium.specs.Versions.{sector_len};
-ghost use Rattle.cfb_meaning.specs.Means.{directory_count};
+ghost use Rattle.cfb_spec.specs.Means.{directory_count};
 ghost use Rattle.cfb_mini.specs.Views.{allocator_of, directory_of, mini_fat_ids};
 ghost use Rattle.cfb_opening.specs.Tables.{IsExact, IsExactFor};
 ghost use Rattle.cfb_sectors.specs.HeaderViews.{fields_of};

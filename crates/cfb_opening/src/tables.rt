@@ -1,10 +1,10 @@
 //! Header, DIFAT and FAT of a compound file, as they are opened ([MS-CFB] 2.2 to 2.5).
 ghost use Rattle.cfb_fat.specs.Tables.{bytes_of, difat_sectors_of, fat_of, fat_sectors_of, has_failed_here, is_honest, medium_of, version_of};
-ghost use Rattle.cfb_medium.specs.Calls.{Extends, HasCauseSince, IsFaultUnless};
+ghost use Rattle.cfb_medium.specs.Calls.{Reaches, IsJustifiedSince, IsFaultOrInvalidInputIf};
 ghost use Rattle.cfb_medium.specs.declared.error.Error.TheVariants.{InvalidData};
 ghost use Rattle.cfb_medium.specs.declared.version.Version.{Version};
-ghost use Rattle.cfb_meaning.specs.Means.{IsLaidOut, Layout};
-ghost use Rattle.cfb_opening.specs.Tables.{AreTables, OnlyReads};
+ghost use Rattle.cfb_spec.specs.Means.{IsLaidOut, Layout};
+ghost use Rattle.cfb_opening.specs.Tables.{AreSectorTables, OnlyReadsMedium};
 ghost use Rattle.cfb_sectors.specs.Header.{HasFields, IsHeader};
 ghost use Rattle.cfb_sectors.specs.HeaderViews.{fields_of};
 ghost use Rattle.std.specs.Prelude.{false, length, IfErr, IfOk, IsErrOf, IsTrue, ◌≡◌, ◌⊎◌};
@@ -29,10 +29,10 @@ fn read_header<F: ReadMedium>(medium: &mut F) -> Result<Header, Error>
         → HasFields (fields_of header) (F.bytes medium.old)) }
     ensures none { IsErrOf result InvalidData → IsTrue (F.honest medium.old)
         → (version : Version) → IsHeader version (F.bytes medium.old) → ⊥ }
-    ensures rests { OnlyReads F.honest F.bytes F.continues medium.old medium.new }
-    ensures cause { IfErr result (HasCauseSince F.continues F.failures F.failed medium.old
+    ensures only_reads { OnlyReadsMedium F.honest F.bytes F.continues medium.old medium.new }
+    ensures cause { IfErr result (IsJustifiedSince F.continues F.failures F.failed medium.old
         medium.new) }
-    ensures fault { IfErr result (λ e. IsFaultUnless ⊥ e ⊎ (e ≡ InvalidData)) }
+    ensures errors { IfErr result (λ e. IsFaultOrInvalidInputIf ⊥ e ⊎ (e ≡ InvalidData)) }
 {
     let mut bytes = [0; HEADER_LEN];
     let count = medium.read_at(0, &mut bytes)?;
@@ -52,10 +52,10 @@ fn read_front<F: ReadMedium>(medium: &mut F) -> Result<(Header, u64), Error>
         → it.1 ≡ length (F.bytes medium.old)) }
     ensures none { IsErrOf result InvalidData → IsTrue (F.honest medium.old)
         → (version : Version) → IsHeader version (F.bytes medium.old) → ⊥ }
-    ensures rests { OnlyReads F.honest F.bytes F.continues medium.old medium.new }
-    ensures cause { IfErr result (HasCauseSince F.continues F.failures F.failed medium.old
+    ensures only_reads { OnlyReadsMedium F.honest F.bytes F.continues medium.old medium.new }
+    ensures cause { IfErr result (IsJustifiedSince F.continues F.failures F.failed medium.old
         medium.new) }
-    ensures fault { IfErr result (λ e. IsFaultUnless ⊥ e ⊎ (e ≡ InvalidData)) }
+    ensures errors { IfErr result (λ e. IsFaultOrInvalidInputIf ⊥ e ⊎ (e ≡ InvalidData)) }
 {
     let len = medium.len()?;
     let header = read_header(medium)?;
@@ -68,23 +68,23 @@ pub(crate) fn open_tables<F: ReadMedium>(
     alloc: Global,
     mut medium: F,
 ) -> Result<Tables<F>, (F, Error)>
-    ensures rests { IfOk result (λ it. OnlyReads F.honest F.bytes F.continues medium
+    ensures only_reads { IfOk result (λ it. OnlyReadsMedium F.honest F.bytes F.continues medium
         (medium_of it.allocator)) }
-    ensures live { IfOk result (λ it. has_failed_here it.allocator ≡ false) }
+    ensures not_failed { IfOk result (λ it. has_failed_here it.allocator ≡ false) }
     ensures header { IfOk result (λ it. IsTrue (F.honest medium)
         → HasFields (fields_of it.header) (F.bytes medium)) }
     ensures version { IfOk result (λ it. version_of it.allocator ≡ it.header.version) }
     ensures len { IfOk result (λ it. IsTrue (F.honest medium)
         → it.len ≡ length (F.bytes medium)) }
     ensures tables { IfOk result (λ it. IsTrue (F.honest medium)
-        → AreTables it.header.version (F.bytes medium) (difat_sectors_of it.allocator)
+        → AreSectorTables it.header.version (F.bytes medium) (difat_sectors_of it.allocator)
         it.difat_stop (fat_sectors_of it.allocator) (fat_of it.allocator)) }
-    ensures refused { IfErr result (λ e. e.1 ≡ InvalidData → IsTrue (F.honest medium)
+    ensures refused_only_if { IfErr result (λ e. e.1 ≡ InvalidData → IsTrue (F.honest medium)
         → (l : Layout) → IsLaidOut (F.bytes medium) l → ⊥) }
-    ensures fault { IfErr result (λ e. IsFaultUnless ⊥ e.1 ⊎ (e.1 ≡ InvalidData)) }
-    ensures cause { IfErr result (λ e. HasCauseSince F.continues F.failures F.failed medium
+    ensures errors { IfErr result (λ e. IsFaultOrInvalidInputIf ⊥ e.1 ⊎ (e.1 ≡ InvalidData)) }
+    ensures cause { IfErr result (λ e. IsJustifiedSince F.continues F.failures F.failed medium
         e.0 e.1) }
-    ensures left { IfErr result (λ e. OnlyReads F.honest F.bytes F.continues medium e.0) }
+    ensures left { IfErr result (λ e. OnlyReadsMedium F.honest F.bytes F.continues medium e.0) }
 {
     let (header, len) = match read_front(&mut medium) {
         Ok(front) => front,

@@ -7,13 +7,13 @@ use Rattle.std.proofs.Math.Seq.{take-append_seam}
 use Rattle.std.proofs.lemmas.List.{take-take}
 use Rattle.cfb_medium.specs.Numbers.{number_bytes}
 use Rattle.cfb_medium.specs.Versions.{major, sector_shift}
-use Rattle.cfb_sectors.specs.Appended.{Begins}
+use Rattle.cfb_sectors.specs.Appended.{IsPrefixOf}
 use Rattle.cfb_sectors.specs.Header.{HeaderFields, header_bytes, signature}
 
-pub Begins-append : (a x b : List ℕ) → b ≡ a ++ x → Begins a b
+pub Begins-append : (a x b : List ℕ) → b ≡ a ++ x → IsPrefixOf a b
 Begins-append a x b e = record { same = ap (λ l. take (length a) l) e ∙ take-append_seam a x }
 
-pub Begins-then : (a b c : List ℕ) → Begins a b → Begins b c → Begins a c
+pub Begins-then : (a b c : List ℕ) → IsPrefixOf a b → IsPrefixOf b c → IsPrefixOf a c
 Begins-then a b c h k =
     let short : length a ≤ length b = omega (arith, ap length h.same, length-take (length a) b) in
     record { same = sym (take-take (length a) (length b) c short) ∙ ap (λ l. take (length a) l) k.same ∙ h.same }

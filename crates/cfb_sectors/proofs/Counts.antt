@@ -1,7 +1,7 @@
 -- The length of a sector, and faults without the refusals that can't come.
 use Rattle.std.proofs.Common.{◌≤◌, arith}
 use Rattle.std.specs.Prelude.{Result, Ok, Err, IfErr}
-use Rattle.cfb_medium.specs.Calls.{IsFaultUnless}
+use Rattle.cfb_medium.specs.Calls.{IsFaultOrInvalidInputIf}
 use Rattle.cfb_medium.specs.declared.error.Error.{Error}
 use Rattle.cfb_medium.specs.declared.error.Error.TheVariants.{InvalidData, InvalidInput, NotFound, AlreadyExists, UnexpectedEof, Full, Memory, Device, Failed}
 use Rattle.cfb_medium.specs.declared.version.Version.{Version}
@@ -9,7 +9,7 @@ use Rattle.cfb_medium.specs.declared.version.Version.TheVariants.{V3, V4}
 use Rattle.cfb_medium.specs.Versions.{sector_len}
 
 -- a refusal by a rule that can't hold is none
-pub fault_only : (P : Type 0) (e : Error) → (P → ⊥) → IsFaultUnless P e → IsFaultUnless ⊥ e
+pub fault_only : (P : Type 0) (e : Error) → (P → ⊥) → IsFaultOrInvalidInputIf P e → IsFaultOrInvalidInputIf ⊥ e
 fault_only P InvalidData never h = h
 fault_only P InvalidInput never h = never h
 fault_only P NotFound never h = h
@@ -20,7 +20,7 @@ fault_only P Memory never h = h
 fault_only P Device never h = h
 fault_only P Failed never h = h
 
-pub faults_only : (P : Type 0) (r : Result (Unit {0}) Error) → (P → ⊥) → IfErr r (IsFaultUnless P) → IfErr r (IsFaultUnless ⊥)
+pub faults_only : (P : Type 0) (r : Result (Unit {0}) Error) → (P → ⊥) → IfErr r (IsFaultOrInvalidInputIf P) → IfErr r (IsFaultOrInvalidInputIf ⊥)
 faults_only P (Ok x) never h = h
 faults_only P (Err e) never h = fault_only P e never h
 

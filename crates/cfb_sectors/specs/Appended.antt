@@ -2,5 +2,5 @@
 use Rattle.std.specs.Prelude.{◌≡◌, ℕ, List, length, take}
 
 -- the second list begins with the first
-pub record Begins (front all : List ℕ) : Type 0 where
+pub record IsPrefixOf (front all : List ℕ) : Type 0 where
   pub same : take (length front) all ≡ front

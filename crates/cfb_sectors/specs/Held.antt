@@ -2,8 +2,8 @@
 use Rattle.std.specs.Prelude.{◌≡◌, ℕ, ◌+◌, ◌<◌, ◌≤◌, ◌⊎◌, Bool, false, true, ◌||◌, List, IsTrue, Some}
 use Rattle.std.specs.List.{AllByRecursion}
 use Rattle.cfb_medium.specs.Bytes.{overwritten}
-use Rattle.cfb_medium.specs.Calls.{Extends, HasCauseSince}
-use Rattle.cfb_medium.specs.Stops.{LeavesOnly}
+use Rattle.cfb_medium.specs.Calls.{Reaches, IsJustifiedSince}
+use Rattle.cfb_medium.specs.Crashes.{CrashLeavesOnly}
 use Rattle.cfb_medium.specs.declared.error.Error.{Error}
 use Rattle.cfb_medium.specs.declared.error.Error.TheVariants.{Failed, InvalidData}
 use Rattle.cfb_medium.specs.declared.medium.ReadMedium.{Ghosts}
@@ -12,8 +12,8 @@ use Rattle.cfb_sectors.specs.declared.sectors.Sectors.{Sectors}
 use Rattle.cfb_sectors.specs.Sectors.{sector_start}
 
 -- why what was asked for isn't given: a fault before has left a state of failure, or what was asked for isn't there
-abbrev pub IsRefused : Bool → Type 0 → Error → Type 0
-IsRefused failed there error = ((error ≡ Failed) × (failed ≡ true)) ⊎ ((error ≡ InvalidData) × (failed ≡ false) × (there → ⊥))
+abbrev pub IsFailedOrNotThere : Bool → Type 0 → Error → Type 0
+IsFailedOrNotThere failed there error = ((error ≡ Failed) × (failed ≡ true)) ⊎ ((error ≡ InvalidData) × (failed ≡ false) × (there → ⊥))
 
 module _ {F : Type 0} {g : Ghosts F} where
   abbrev pub medium_of : Sectors F g → F
@@ -48,17 +48,17 @@ module _ {F : Type 0} {g : Ghosts F} where
   LiesIn it n offset count = (n < count_of it) × (sector_start (version_of it) n + offset + count ≤ sector_start (version_of it) (count_of it))
 
   -- each of these is a sector
-  abbrev pub AreCounted : Sectors F g → List ℕ → Type 0
-  AreCounted it sectors = AllByRecursion (λ n. n < count_of it) sectors
+  abbrev pub AreSectorNumbers : Sectors F g → List ℕ → Type 0
+  AreSectorNumbers it sectors = AllByRecursion (λ n. n < count_of it) sectors
 
   -- so many bytes from this place of the file on end in its sectors
   abbrev pub EndsIn : Sectors F g → ℕ → ℕ → Type 0
   EndsIn it place count = place + count ≤ sector_start (version_of it) (count_of it)
 
   -- nothing but reads and flushes was done
-  pub record Rests (old new : Sectors F g) : Type 0 where
+  pub record OnlyReadsSectors (old new : Sectors F g) : Type 0 where
     pub honest : g.honest new.inner ≡ g.honest old.inner
-    pub continues : Extends g.continues old.inner new.inner
+    pub continues : Reaches g.continues old.inner new.inner
     pub bytes : IsHonest old → bytes_of new ≡ bytes_of old
     pub version : version_of new ≡ version_of old
     pub count : count_of new ≡ count_of old
@@ -67,7 +67,7 @@ module _ {F : Type 0} {g : Ghosts F} where
   -- where it has not failed the bytes are those that the function makes of them, and nothing was published
   pub record Changes (change : List ℕ → List ℕ) (old new : Sectors F g) : Type 0 where
     pub honest : g.honest new.inner ≡ g.honest old.inner
-    pub continues : Extends g.continues old.inner new.inner
+    pub continues : Reaches g.continues old.inner new.inner
     pub version : version_of new ≡ version_of old
     pub live : has_failed_here new ≡ false → has_failed_here old ≡ false
     pub bytes : has_failed_here new ≡ false → IsHonest old → bytes_of new ≡ change (bytes_of old)
@@ -80,13 +80,13 @@ module _ {F : Type 0} {g : Ghosts F} where
     pub failed : has_failed_here new ≡ true
 
   -- these bytes were written at this place, and as many sectors are there
-  abbrev pub Writes : ℕ → List ℕ → Sectors F g → Sectors F g → Type 0
-  Writes place bytes old new = Changes (λ b. overwritten b place bytes) old new × (count_of new ≡ count_of old)
+  abbrev pub WritesBytesAt : ℕ → List ℕ → Sectors F g → Sectors F g → Type 0
+  WritesBytesAt place bytes old new = Changes (λ b. overwritten b place bytes) old new × (count_of new ≡ count_of old)
 
   -- the error is one of the medium, with its cause there, or tells of an earlier fault here
-  abbrev pub HasItsCause : Sectors F g → Sectors F g → Error → Type 0
-  HasItsCause old new error = HasCauseSince g.continues g.failures (λ m. has_failed_here old || g.failed m) old.inner new.inner error
+  abbrev pub IsJustifiedByMedium : Sectors F g → Sectors F g → Error → Type 0
+  IsJustifiedByMedium old new error = IsJustifiedSince g.continues g.failures (λ m. has_failed_here old || g.failed m) old.inner new.inner error
 
   -- a stop at a moment since the old state leaves what one might have left by then, or the bytes that there were
-  abbrev pub LeavesOldOrBytes : Sectors F g → Sectors F g → Type 0
-  LeavesOldOrBytes old new = LeavesOnly g.moment g.left_since (medium_of old) (medium_of new) (λ left. g.may_leave (medium_of old) left ⊎ (left ≡ Some (bytes_of old)))
+  abbrev pub CrashLeavesOldOrBytes : Sectors F g → Sectors F g → Type 0
+  CrashLeavesOldOrBytes old new = CrashLeavesOnly g.moment g.crash_left_since (medium_of old) (medium_of new) (λ left. g.crash_may_leave (medium_of old) left ⊎ (left ≡ Some (bytes_of old)))

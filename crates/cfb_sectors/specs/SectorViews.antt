@@ -34,8 +34,8 @@ module _ {H : Type 0} where
   rest_of it = len_of it - position_of it
 
   -- as many of these bytes as fit in may be written there
-  abbrev pub MayTake : (H → ℕ → ℕ → Type 0) → List ℕ → Sector H → Type 0
-  MayTake may_write bytes it = may_write (holder_of it) (place_of it) (min (length bytes) (rest_of it))
+  abbrev pub CanWriteInSector : (H → ℕ → ℕ → Type 0) → List ℕ → Sector H → Type 0
+  CanWriteInSector may_write bytes it = may_write (holder_of it) (place_of it) (min (length bytes) (rest_of it))
 
   -- the same part, lent by the same layer
   pub record IsSame (old new : Sector H) : Type 0 where

@@ -1,12 +1,12 @@
 //! The sectors of a medium, as what any layer above has.
 ghost use Rattle.cfb_sectors.specs.Keeping as Keeping;
-ghost use Rattle.cfb_sectors.specs.Resting as Resting;
+ghost use Rattle.cfb_sectors.specs.OnlyReads as Resting;
 
 use crate::{ChangesSectors, HasSectors, Sectors};
 use cfb_medium::{Error, Medium, ReadMedium};
 
 impl<F: ReadMedium> HasSectors for Sectors<F> {
-    ghost use Rattle.cfb_sectors.specs.Held.{bytes_of, has_failed_here, is_honest, HasItsCause, Rests};
+    ghost use Rattle.cfb_sectors.specs.Held.{bytes_of, has_failed_here, is_honest, IsJustifiedByMedium, OnlyReadsSectors};
 
     ghost bytes = { bytes_of };
 
@@ -14,9 +14,9 @@ impl<F: ReadMedium> HasSectors for Sectors<F> {
 
     ghost failed = { has_failed_here };
 
-    ghost rests = { Rests };
+    ghost rests = { OnlyReadsSectors };
 
-    ghost has_cause = { HasItsCause };
+    ghost has_cause = { IsJustifiedByMedium };
 
     fn is_failed(&self) -> bool {
         Sectors::is_failed(self)
@@ -42,11 +42,11 @@ impl<F: ReadMedium> HasSectors for Sectors<F> {
 }
 
 impl<F: Medium> ChangesSectors for Sectors<F> {
-    ghost use Rattle.cfb_sectors.specs.Held.{EndsIn, Fails, Writes};
+    ghost use Rattle.cfb_sectors.specs.Held.{EndsIn, Fails, WritesBytesAt};
 
     ghost may_write = { EndsIn };
 
-    ghost writes = { Writes };
+    ghost writes = { WritesBytesAt };
 
     ghost fails = { Fails };
 

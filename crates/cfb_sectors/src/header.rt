@@ -1,7 +1,7 @@
 //! The header of a compound file.
 ghost use Rattle.cfb_medium.specs.declared.error.Error.TheVariants.{InvalidData, Memory, UnexpectedEof};
 ghost use Rattle.cfb_medium.specs.declared.version.Version.{Version};
-ghost use Rattle.cfb_sectors.specs.Appended.{Begins};
+ghost use Rattle.cfb_sectors.specs.Appended.{IsPrefixOf};
 ghost use Rattle.cfb_sectors.specs.Header.{header_bytes, FitsHeader, HasFields, IsHeader};
 ghost use Rattle.cfb_sectors.specs.Readable.{IsReadable, IsTaken};
 ghost use Rattle.std.specs.Prelude.{drop, length, take, IfErr, IfOk, IsOk, IsTrue, List, MatchOption, OnErr, OnOk, ℕ, ◌++◌, ◌<◌, ◌≡◌, ◌≤◌, ◌↔◌, ◌⊎◌};
@@ -73,7 +73,7 @@ impl Header {
         ensures read { IfOk result (λ h. HasFields (fields_of h) reader.old.now) }
         ensures rest { OnOk result (reader.new.now ≡ drop 512 reader.old.now) }
         ensures left { OnErr result (reader.new.now ≡ reader.old.now) }
-        ensures error { IfErr result (λ e. ((e ≡ UnexpectedEof) × (length reader.old.now < 512))
+        ensures errors { IfErr result (λ e. ((e ≡ UnexpectedEof) × (length reader.old.now < 512))
             ⊎ ((e ≡ InvalidData) × (512 ≤ length reader.old.now))) }
     {
         let bytes = *reader;
@@ -105,8 +105,8 @@ impl Header {
     pub fn write_to(&self, writer: &mut Vec<u8>) -> Result<(), Error>
         ensures ok { OnOk result (writer.new.items
             ≡ writer.old.items ++ header_bytes (fields_of self.now)) }
-        ensures err { OnErr result (writer.new.items ≡ writer.old.items) }
-        ensures error { IfErr result (λ e. e ≡ Memory) }
+        ensures after_error { OnErr result (writer.new.items ≡ writer.old.items) }
+        ensures errors { IfErr result (λ e. e ≡ Memory) }
     {
         let len = writer.len();
         if self.append_to(writer).is_err() {
@@ -136,7 +136,7 @@ impl Header {
     fn append_to(&self, out: &mut Vec<u8>) -> Result<(), AllocError>
         ensures ok { OnOk result (out.new.items ≡ out.old.items
             ++ header_bytes (fields_of self.now)) }
-        ensures kept { Begins out.old.items out.new.items }
+        ensures kept { IsPrefixOf out.old.items out.new.items }
     {
         out.extend_from_slice(&MAGIC_NUMBER)?;
         push_zeros(out, 16)?;
@@ -173,7 +173,7 @@ ghost use Rattle.cfb_sectors.specs.HeaderViews.{fields_of};
 pub fn header_again(alloc: Global, header: Header, validation: Validation) -> Result<Header, Error>
     ensures same { IfOk result (λ h. fields_of h ≡ fields_of header) }
     ensures taken { OnOk result (IsTaken validation header.version header.num_dir_sectors) }
-    ensures error { IfErr result (λ e. (e ≡ Memory)
+    ensures errors { IfErr result (λ e. (e ≡ Memory)
         ⊎ ((e ≡ InvalidData) × (IsTaken validation header.version header.num_dir_sectors → ⊥))) }
 {
     header.fits();

@@ -1,6 +1,6 @@
 //! Numbers in bytes, lowest byte first: read one by one or all, and appended.
 ghost use Rattle.cfb_medium.specs.Numbers.{number_bytes, numbers, u16_at, u32_at, u64_at};
-ghost use Rattle.cfb_sectors.specs.Appended.{Begins};
+ghost use Rattle.cfb_sectors.specs.Appended.{IsPrefixOf};
 ghost use Rattle.std.specs.Int.{to_le_bytes, w16, w32};
 ghost use Rattle.std.specs.List.{flat_map, AllByRecursion};
 ghost use Rattle.std.specs.Prelude.{length, replicate, slice_range, IfOk, OnOk, ◌*◌, ◌+◌, ◌++◌, ◌<◌, ◌≡◌, ◌≤◌, ◌^◌};
@@ -63,7 +63,7 @@ pub(crate) fn difat_numbers(bytes: &[u8]) -> [u32; NUM_DIFAT_ENTRIES_IN_HEADER]
 // Appends zeros.
 pub(crate) fn push_zeros(out: &mut Vec<u8>, count: usize) -> Result<(), AllocError>
     ensures ok { OnOk result (out.new.items ≡ out.old.items ++ replicate count 0) }
-    ensures kept { Begins out.old.items out.new.items }
+    ensures kept { IsPrefixOf out.old.items out.new.items }
 {
     for _i in 0..count {
         out.push(0)?;
@@ -75,7 +75,7 @@ pub(crate) fn push_zeros(out: &mut Vec<u8>, count: usize) -> Result<(), AllocErr
 pub(crate) fn push_u16s(out: &mut Vec<u8>, numbers: &[u16]) -> Result<(), AllocError>
     ensures ok { OnOk result (out.new.items ≡ out.old.items
         ++ flat_map (to_le_bytes w16) numbers.now) }
-    ensures kept { Begins out.old.items out.new.items }
+    ensures kept { IsPrefixOf out.old.items out.new.items }
 {
     for number in numbers {
         out.extend_from_slice(&number.to_le_bytes())?;
@@ -86,7 +86,7 @@ pub(crate) fn push_u16s(out: &mut Vec<u8>, numbers: &[u16]) -> Result<(), AllocE
 // Appends numbers of four bytes.
 pub(crate) fn push_u32s(out: &mut Vec<u8>, numbers: &[u32]) -> Result<(), AllocError>
     ensures ok { OnOk result (out.new.items ≡ out.old.items ++ number_bytes numbers.now) }
-    ensures kept { Begins out.old.items out.new.items }
+    ensures kept { IsPrefixOf out.old.items out.new.items }
 {
     for number in numbers {
         out.extend_from_slice(&number.to_le_bytes())?;

@@ -1,6 +1,6 @@
 //! One sector, or a part of it, read and written from a position on.
 ghost use Rattle.cfb_medium.specs.Bytes.{overwritten};
-ghost use Rattle.cfb_medium.specs.Calls.{IsFaultUnless};
+ghost use Rattle.cfb_medium.specs.Calls.{IsFaultOrInvalidInputIf};
 ghost use Rattle.cfb_medium.specs.declared.error.Error.{Error};
 ghost use Rattle.cfb_medium.specs.declared.error.Error.TheVariants.{Device, Failed, InvalidData};
 ghost use Rattle.cfb_sectors.specs.Sectors.{filled_part};
@@ -38,10 +38,10 @@ pub trait HasSectors {
     fn read_part(&mut self, place: u64, buffer: &mut [u8]) -> Result<(), Error>
         ensures read { OnOk result (IsTrue (honest self.old)
             → buffer.new ≡ filled_part (bytes self.old) place (length buffer.old)) }
-        ensures rests { rests self.old self.new }
-        ensures failed { failed self.old ≡ true → IsErrOf result Failed }
+        ensures only_reads { rests self.old self.new }
+        ensures when_failed { failed self.old ≡ true → IsErrOf result Failed }
         ensures cause { IfErr result (has_cause self.old self.new) }
-        ensures fault { IfErr result (IsFaultUnless ⊥) };
+        ensures errors { IfErr result (IsFaultOrInvalidInputIf ⊥) };
 
     ghost rests_refl: { (it : Self) → rests it it };
 
@@ -76,19 +76,20 @@ pub trait ChangesSectors: HasSectors {
     fn write_part(&mut self, place: u64, bytes: &[u8]) -> Result<(), Error>
         ensures writes { may_write self.old place (length bytes.now)
             → writes place bytes.now self.old self.new }
-        ensures rests { (may_write self.old place (length bytes.now) → ⊥)
+        ensures only_reads { (may_write self.old place (length bytes.now) → ⊥)
             → Self.rests self.old self.new }
         ensures either { writes place bytes.now self.old self.new ⊎ Self.rests self.old self.new }
         ensures there { OnOk result (may_write self.old place (length bytes.now)) }
-        ensures refused { IsErrOf result InvalidData
+        ensures refused_only_if { IsErrOf result InvalidData
             ↔ ((Self.failed self.old ≡ false) × (may_write self.old place (length bytes.now) → ⊥)) }
         ensures still { (at count : ℕ) → may_write self.old at count → may_write self.new at count }
-        ensures live { OnOk result ((Self.failed self.old ≡ false)
+        ensures not_failed { OnOk result ((Self.failed self.old ≡ false)
             × (Self.failed self.new ≡ false)) }
-        ensures failed { Self.failed self.old ≡ true
+        ensures when_failed { Self.failed self.old ≡ true
             → IsErrOf result Failed × Self.rests self.old self.new }
         ensures cause { IfErr result (Self.has_cause self.old self.new) }
-        ensures fault { IfErr result (λ e. (IsFaultUnless ⊥ e × (Self.failed self.new ≡ true))
+        ensures errors { IfErr result
+            (λ e. (IsFaultOrInvalidInputIf ⊥ e × (Self.failed self.new ≡ true))
             ⊎ (e ≡ InvalidData)) };
 
     ghost fails_keep: { (a b : Self) → fails a b → (Self.honest b ≡ Self.honest a) × (Self.failed b ≡ true) };
@@ -189,10 +190,10 @@ impl<'a, H: HasSectors> Sector<'a, H> {
         ensures moved { IfOk result (λ n. position_of self.new ≡ position_of self.old + n) }
         ensures stays { OnErr result (position_of self.new ≡ position_of self.old) }
         ensures same { IsSame self.old self.new }
-        ensures rests { H.rests (holder_of self.old) (holder_of self.new) }
-        ensures failed { H.failed (holder_of self.old) ≡ true → IsErrOf result Failed }
+        ensures only_reads { H.rests (holder_of self.old) (holder_of self.new) }
+        ensures when_failed { H.failed (holder_of self.old) ≡ true → IsErrOf result Failed }
         ensures cause { IfErr result (H.has_cause (holder_of self.old) (holder_of self.new)) }
-        ensures fault { IfErr result (IsFaultUnless ⊥) }
+        ensures errors { IfErr result (IsFaultOrInvalidInputIf ⊥) }
     {
         let count = buffer.len().min(self.part.len - self.part.position);
         let place = self.part.start + self.part.position as u64;
@@ -206,10 +207,10 @@ impl<'a, H: HasSectors> Sector<'a, H> {
     pub fn seek(&mut self, from: SeekFrom) -> Result<u64, Error>
         ensures ok { IfOk result (λ n. Finds from (len_of self.old) (position_of self.old) n
             × (position_of self.new ≡ n)) }
-        ensures live { OnOk result (H.failed (holder_of self.old) ≡ false) }
-        ensures error { IfErr result (IsNotFound (H.failed (holder_of self.old)) from
+        ensures not_failed { OnOk result (H.failed (holder_of self.old) ≡ false) }
+        ensures errors { IfErr result (IsNotFound (H.failed (holder_of self.old)) from
             (len_of self.old) (position_of self.old)) }
-        ensures failed { H.failed (holder_of self.old) ≡ true → IsErrOf result Failed }
+        ensures when_failed { H.failed (holder_of self.old) ≡ true → IsErrOf result Failed }
         ensures stays { OnErr result (position_of self.new ≡ position_of self.old) }
         ensures same { IsSame self.old self.new }
         ensures holder { holder_of self.new ≡ holder_of self.old }
@@ -264,32 +265,32 @@ pub fn place_found(from: SeekFrom, len: u64, position: u64) -> Option<u64>
 }
 
 impl<'a, H: ChangesSectors> Sector<'a, H> {
-    ghost use Rattle.cfb_sectors.specs.SectorViews.{holder_of, place_of, position_of, rest_of, IsSame, MayTake};
+    ghost use Rattle.cfb_sectors.specs.SectorViews.{holder_of, place_of, position_of, rest_of, IsSame, CanWriteInSector};
 
     /// Writes what the part takes from the position on, and moves the position behind it. `InvalidData` where the layer may
     /// not write there, and then nothing is changed.
     pub fn write(&mut self, bytes: &[u8]) -> Result<usize, Error>
         ensures advances { IfOk result (λ n. (n ≡ min (length bytes.now) (rest_of self.old))
             × (position_of self.new ≡ position_of self.old + n)) }
-        ensures writes { MayTake H.may_write bytes.now self.old
+        ensures writes { CanWriteInSector H.may_write bytes.now self.old
             → H.writes (place_of self.old) (take (rest_of self.old) bytes.now)
             (holder_of self.old) (holder_of self.new) }
-        ensures rests { (MayTake H.may_write bytes.now self.old → ⊥)
+        ensures only_reads { (CanWriteInSector H.may_write bytes.now self.old → ⊥)
             → H.rests (holder_of self.old) (holder_of self.new) }
-        ensures there { OnOk result (MayTake H.may_write bytes.now self.old) }
-        ensures refused { IsErrOf result InvalidData
+        ensures there { OnOk result (CanWriteInSector H.may_write bytes.now self.old) }
+        ensures refused_only_if { IsErrOf result InvalidData
             ↔ ((H.failed (holder_of self.old) ≡ false)
-            × (MayTake H.may_write bytes.now self.old → ⊥)) }
+            × (CanWriteInSector H.may_write bytes.now self.old → ⊥)) }
         ensures still { (at count : ℕ) → H.may_write (holder_of self.old) at count
             → H.may_write (holder_of self.new) at count }
         ensures stays { OnErr result (position_of self.new ≡ position_of self.old) }
         ensures same { IsSame self.old self.new }
-        ensures live { OnOk result ((H.failed (holder_of self.old) ≡ false)
+        ensures not_failed { OnOk result ((H.failed (holder_of self.old) ≡ false)
             × (H.failed (holder_of self.new) ≡ false)) }
-        ensures failed { H.failed (holder_of self.old) ≡ true
+        ensures when_failed { H.failed (holder_of self.old) ≡ true
             → IsErrOf result Failed × H.rests (holder_of self.old) (holder_of self.new) }
         ensures cause { IfErr result (H.has_cause (holder_of self.old) (holder_of self.new)) }
-        ensures fault { IfErr result (λ e. (IsFaultUnless ⊥ e
+        ensures errors { IfErr result (λ e. (IsFaultOrInvalidInputIf ⊥ e
             × (H.failed (holder_of self.new) ≡ true)) ⊎ (e ≡ InvalidData)) }
     {
         let count = bytes.len().min(self.part.len - self.part.position);

@@ -1,10 +1,10 @@
 //! A medium seen as a header's sector and those behind it.
 ghost use Rattle.cfb_medium.specs.Bytes.{overwritten};
-ghost use Rattle.cfb_medium.specs.Calls.{Extends, HasCauseSince, IsCutOff, IsFaultUnless};
+ghost use Rattle.cfb_medium.specs.Calls.{Reaches, IsJustifiedSince, IsCutOff, IsFaultOrInvalidInputIf};
 ghost use Rattle.cfb_medium.specs.Versions.{sector_len};
 ghost use Rattle.cfb_medium.specs.declared.error.Error.TheVariants.{Failed, Full, InvalidData};
 ghost use Rattle.cfb_sectors.specs.Initial.{first_bytes};
-ghost use Rattle.cfb_sectors.specs.RollingBack.{RollsBack};
+ghost use Rattle.cfb_sectors.specs.RollingBack.{MediumRollsBack};
 ghost use Rattle.cfb_sectors.specs.Sectors.{filled_part, greatest_regular, sector_start, sectors_in};
 ghost use Rattle.std.specs.Prelude.{false, length, replicate, true, IfErr, IfOk, IsErrOf, IsTrue, MatchOption, OnErr, OnOk, ◌+◌, ◌<◌, ◌≡◌, ◌≤◌, ◌↔◌, ◌⊎◌, ◌||◌, ◌^◌};
 
@@ -28,7 +28,7 @@ pub struct Sectors<F: ReadMedium> {
 }
 
 impl<F: ReadMedium> Sectors<F> {
-    ghost use Rattle.cfb_sectors.specs.Held.{bytes_of, count_of, has_failed_here, medium_of, version_of, EndsIn, Fails, HasItsCause, IsHonest, IsRefused, LiesIn, Rests};
+    ghost use Rattle.cfb_sectors.specs.Held.{bytes_of, count_of, has_failed_here, medium_of, version_of, EndsIn, Fails, IsJustifiedByMedium, IsHonest, IsFailedOrNotThere, LiesIn, OnlyReadsSectors};
     ghost use Rattle.cfb_sectors.specs.SectorViews.{part_len, part_position, part_start};
 
     /// The sectors of a medium of so many bytes.
@@ -37,7 +37,7 @@ impl<F: ReadMedium> Sectors<F> {
         ensures medium { medium_of result ≡ inner }
         ensures version { version_of result ≡ version }
         ensures count { count_of result ≡ sectors_in version len }
-        ensures live { has_failed_here result ≡ false }
+        ensures not_failed { has_failed_here result ≡ false }
     {
         let whole = len.saturating_sub(1) / version.sector_len() as u64;
         Sectors {
@@ -53,7 +53,7 @@ impl<F: ReadMedium> Sectors<F> {
         ensures medium { medium_of result ≡ inner }
         ensures version { version_of result ≡ version }
         ensures count { count_of result ≡ 0 }
-        ensures failed { has_failed_here result ≡ true }
+        ensures when_failed { has_failed_here result ≡ true }
     {
         Sectors {
             inner,
@@ -104,7 +104,8 @@ impl<F: ReadMedium> Sectors<F> {
         ensures part { IfOk result (λ it. (part_start it ≡ 0) × (part_len it ≡ 512)
             × (part_position it ≡ offset)) }
         ensures there { OnOk result ((has_failed_here self.now ≡ false) × (offset ≤ 512)) }
-        ensures error { IfErr result (IsRefused (has_failed_here self.now) (offset ≤ 512)) }
+        ensures errors { IfErr result
+            (IsFailedOrNotThere (has_failed_here self.now) (offset ≤ 512)) }
     {
         if self.failed {
             return Err(Error::Failed);
@@ -119,7 +120,7 @@ impl<F: ReadMedium> Sectors<F> {
             × (part_len it ≡ sector_len (version_of self.now)) × (part_position it ≡ 0)) }
         ensures there { OnOk result ((has_failed_here self.now ≡ false)
             × (sector_id < count_of self.now)) }
-        ensures error { IfErr result (IsRefused (has_failed_here self.now)
+        ensures errors { IfErr result (IsFailedOrNotThere (has_failed_here self.now)
             (sector_id < count_of self.now)) }
     {
         self.seek_within_sector(sector_id, 0)
@@ -132,7 +133,7 @@ impl<F: ReadMedium> Sectors<F> {
             × (part_len it ≡ sector_len (version_of self.now)) × (part_position it ≡ offset)) }
         ensures there { OnOk result ((has_failed_here self.now ≡ false)
             × (sector_id < count_of self.now) × (offset ≤ sector_len (version_of self.now))) }
-        ensures error { IfErr result (IsRefused (has_failed_here self.now)
+        ensures errors { IfErr result (IsFailedOrNotThere (has_failed_here self.now)
             ((sector_id < count_of self.now) × (offset ≤ sector_len (version_of self.now)))) }
     {
         if self.failed {
@@ -195,9 +196,9 @@ impl<F: ReadMedium> Sectors<F> {
     pub(crate) fn read_filled(&mut self, place: u64, buffer: &mut [u8]) -> Result<(), Error>
         ensures read { OnOk result (IsHonest self.old
             → buffer.new ≡ filled_part (bytes_of self.old) place (length buffer.old)) }
-        ensures rests { Rests self.old self.new }
-        ensures cause { IfErr result (HasItsCause self.old self.new) }
-        ensures fault { IfErr result (IsFaultUnless ⊥) }
+        ensures only_reads { OnlyReadsSectors self.old self.new }
+        ensures cause { IfErr result (IsJustifiedByMedium self.old self.new) }
+        ensures errors { IfErr result (IsFaultOrInvalidInputIf ⊥) }
     {
         let count = self.inner.read_at(place, buffer)?;
         buffer[count..].fill(0);
@@ -217,13 +218,13 @@ impl<F: ReadMedium> Sectors<F> {
             (sector_start (version_of self.old) sector_id + offset) (length buffer.old)) }
         ensures inside { OnOk result ((has_failed_here self.old ≡ false)
             × LiesIn self.old sector_id offset (length buffer.old)) }
-        ensures failed { has_failed_here self.old ≡ true → IsErrOf result Failed }
-        ensures refused { IsErrOf result InvalidData
+        ensures when_failed { has_failed_here self.old ≡ true → IsErrOf result Failed }
+        ensures refused_only_if { IsErrOf result InvalidData
             ↔ ((has_failed_here self.old ≡ false) × (LiesIn self.old sector_id offset
             (length buffer.old) → ⊥)) }
-        ensures rests { Rests self.old self.new }
-        ensures cause { IfErr result (HasItsCause self.old self.new) }
-        ensures fault { IfErr result (λ e. IsFaultUnless ⊥ e ⊎ (e ≡ InvalidData)) }
+        ensures only_reads { OnlyReadsSectors self.old self.new }
+        ensures cause { IfErr result (IsJustifiedByMedium self.old self.new) }
+        ensures errors { IfErr result (λ e. IsFaultOrInvalidInputIf ⊥ e ⊎ (e ≡ InvalidData)) }
     {
         if self.failed {
             return Err(Error::Failed);
@@ -236,7 +237,7 @@ impl<F: ReadMedium> Sectors<F> {
 }
 
 impl<F: Medium> Sectors<F> {
-    ghost use Rattle.cfb_sectors.specs.Held.{bytes_of, count_of, has_failed, has_failed_here, medium_of, version_of, Changes, HasItsCause, IsHonest, LeavesOldOrBytes, LiesIn, Rests};
+    ghost use Rattle.cfb_sectors.specs.Held.{bytes_of, count_of, has_failed, has_failed_here, medium_of, version_of, Changes, IsJustifiedByMedium, IsHonest, CrashLeavesOldOrBytes, LiesIn, OnlyReadsSectors};
 
     /// Whether a fault in a write or a commit has left it, or the medium, in a state in which every call is refused.
     pub fn has_failed(&self) -> bool
@@ -251,12 +252,12 @@ impl<F: Medium> Sectors<F> {
         ensures written { IsHonest self.old → OnOk result
             (bytes_of self.new ≡ overwritten (bytes_of self.old) place bytes.now) }
         ensures honest { F.honest (medium_of self.new) ≡ F.honest (medium_of self.old) }
-        ensures continues { Extends F.continues (medium_of self.old) (medium_of self.new) }
+        ensures continues { Reaches F.continues (medium_of self.old) (medium_of self.new) }
         ensures version { version_of self.new ≡ version_of self.old }
         ensures count { count_of self.new ≡ count_of self.old }
-        ensures failed { has_failed_here self.new ≡ true }
-        ensures cause { IfErr result (HasItsCause self.old self.new) }
-        ensures fault { IfErr result (IsFaultUnless ⊥) }
+        ensures when_failed { has_failed_here self.new ≡ true }
+        ensures cause { IfErr result (IsJustifiedByMedium self.old self.new) }
+        ensures errors { IfErr result (IsFaultOrInvalidInputIf ⊥) }
     {
         self.failed = true;
         self.inner.write_at(place, bytes)
@@ -268,12 +269,12 @@ impl<F: Medium> Sectors<F> {
             (count_of self.old) }
         ensures changes { Changes (λ b. overwritten b place bytes.now) self.old self.new }
         ensures count { count_of self.new ≡ count_of self.old }
-        ensures live { OnOk result (has_failed_here self.new ≡ false) }
-        ensures err { OnErr result (has_failed_here self.new ≡ true) }
-        ensures failed { has_failed_here self.old ≡ true
-            → IsErrOf result Failed × Rests self.old self.new }
-        ensures cause { IfErr result (HasItsCause self.old self.new) }
-        ensures fault { IfErr result (IsFaultUnless ⊥) }
+        ensures not_failed { OnOk result (has_failed_here self.new ≡ false) }
+        ensures after_error { OnErr result (has_failed_here self.new ≡ true) }
+        ensures when_failed { has_failed_here self.old ≡ true
+            → IsErrOf result Failed × OnlyReadsSectors self.old self.new }
+        ensures cause { IfErr result (IsJustifiedByMedium self.old self.new) }
+        ensures errors { IfErr result (IsFaultOrInvalidInputIf ⊥) }
     {
         if self.failed {
             return Err(Error::Failed);
@@ -294,17 +295,18 @@ impl<F: Medium> Sectors<F> {
         ensures changes { LiesIn self.old sector_id offset (length bytes.now)
             → Changes (λ b. overwritten b (sector_start (version_of self.old) sector_id
             + offset) bytes.now) self.old self.new }
-        ensures rests { (LiesIn self.old sector_id offset (length bytes.now) → ⊥)
-            → Rests self.old self.new }
-        ensures refused { IsErrOf result InvalidData
+        ensures only_reads { (LiesIn self.old sector_id offset (length bytes.now) → ⊥)
+            → OnlyReadsSectors self.old self.new }
+        ensures refused_only_if { IsErrOf result InvalidData
             ↔ ((has_failed_here self.old ≡ false) × (LiesIn self.old sector_id offset
             (length bytes.now) → ⊥)) }
         ensures count { count_of self.new ≡ count_of self.old }
-        ensures live { OnOk result (has_failed_here self.new ≡ false) }
-        ensures failed { has_failed_here self.old ≡ true
-            → IsErrOf result Failed × Rests self.old self.new }
-        ensures cause { IfErr result (HasItsCause self.old self.new) }
-        ensures fault { IfErr result (λ e. (IsFaultUnless ⊥ e × (has_failed_here self.new ≡ true))
+        ensures not_failed { OnOk result (has_failed_here self.new ≡ false) }
+        ensures when_failed { has_failed_here self.old ≡ true
+            → IsErrOf result Failed × OnlyReadsSectors self.old self.new }
+        ensures cause { IfErr result (IsJustifiedByMedium self.old self.new) }
+        ensures errors { IfErr result
+            (λ e. (IsFaultOrInvalidInputIf ⊥ e × (has_failed_here self.new ≡ true))
             ⊎ (e ≡ InvalidData)) }
     {
         if self.failed {
@@ -325,14 +327,16 @@ impl<F: Medium> Sectors<F> {
             (first_bytes init.entry (sector_len (version_of self.old)))) self.old self.new }
         ensures count { has_failed_here self.new ≡ false → count_of self.old ≤ greatest_regular
             → count_of self.new ≡ count_of self.old + 1 }
-        ensures live { OnOk result (has_failed_here self.new ≡ false) }
-        ensures failed { has_failed_here self.old ≡ true
-            → IsErrOf result Failed × Rests self.old self.new }
-        ensures full { IsErrOf result Full ↔ ((has_failed_here self.old ≡ false)
+        ensures not_failed { OnOk result (has_failed_here self.new ≡ false) }
+        ensures when_failed { has_failed_here self.old ≡ true
+            → IsErrOf result Failed × OnlyReadsSectors self.old self.new }
+        ensures full_only_if { IsErrOf result Full ↔ ((has_failed_here self.old ≡ false)
             × (greatest_regular < count_of self.old)) }
-        ensures rests { greatest_regular < count_of self.old → Rests self.old self.new }
-        ensures cause { IfErr result (HasItsCause self.old self.new) }
-        ensures fault { IfErr result (λ e. (IsFaultUnless ⊥ e × (has_failed_here self.new ≡ true))
+        ensures only_reads { greatest_regular < count_of self.old
+            → OnlyReadsSectors self.old self.new }
+        ensures cause { IfErr result (IsJustifiedByMedium self.old self.new) }
+        ensures errors { IfErr result
+            (λ e. (IsFaultOrInvalidInputIf ⊥ e × (has_failed_here self.new ≡ true))
             ⊎ (e ≡ Full)) }
     {
         if self.failed {
@@ -359,14 +363,16 @@ impl<F: Medium> Sectors<F> {
             (replicate (sector_len (version_of self.old)) 0)) self.old self.new }
         ensures count { has_failed_here self.new ≡ false → count_of self.old ≤ greatest_regular
             → count_of self.new ≡ count_of self.old + 1 }
-        ensures live { OnOk result (has_failed_here self.new ≡ false) }
-        ensures failed { has_failed_here self.old ≡ true
-            → IsErrOf result Failed × Rests self.old self.new }
-        ensures full { IsErrOf result Full ↔ ((has_failed_here self.old ≡ false)
+        ensures not_failed { OnOk result (has_failed_here self.new ≡ false) }
+        ensures when_failed { has_failed_here self.old ≡ true
+            → IsErrOf result Failed × OnlyReadsSectors self.old self.new }
+        ensures full_only_if { IsErrOf result Full ↔ ((has_failed_here self.old ≡ false)
             × (greatest_regular < count_of self.old)) }
-        ensures rests { greatest_regular < count_of self.old → Rests self.old self.new }
-        ensures cause { IfErr result (HasItsCause self.old self.new) }
-        ensures fault { IfErr result (λ e. (IsFaultUnless ⊥ e × (has_failed_here self.new ≡ true))
+        ensures only_reads { greatest_regular < count_of self.old
+            → OnlyReadsSectors self.old self.new }
+        ensures cause { IfErr result (IsJustifiedByMedium self.old self.new) }
+        ensures errors { IfErr result
+            (λ e. (IsFaultOrInvalidInputIf ⊥ e × (has_failed_here self.new ≡ true))
             ⊎ (e ≡ Full)) }
     {
         self.append_sector(NewSector::Init(SectorInit::Zero))
@@ -378,15 +384,16 @@ impl<F: Medium> Sectors<F> {
         ensures changes { sector_id < count_of self.old
             → Changes (λ b. overwritten b (sector_start (version_of self.old) sector_id)
             (first_bytes init.entry (sector_len (version_of self.old)))) self.old self.new }
-        ensures rests { count_of self.old ≤ sector_id → Rests self.old self.new }
-        ensures refused { IsErrOf result InvalidData
+        ensures only_reads { count_of self.old ≤ sector_id → OnlyReadsSectors self.old self.new }
+        ensures refused_only_if { IsErrOf result InvalidData
             ↔ ((has_failed_here self.old ≡ false) × (count_of self.old ≤ sector_id)) }
         ensures count { count_of self.new ≡ count_of self.old }
-        ensures live { OnOk result (has_failed_here self.new ≡ false) }
-        ensures failed { has_failed_here self.old ≡ true
-            → IsErrOf result Failed × Rests self.old self.new }
-        ensures cause { IfErr result (HasItsCause self.old self.new) }
-        ensures fault { IfErr result (λ e. (IsFaultUnless ⊥ e × (has_failed_here self.new ≡ true))
+        ensures not_failed { OnOk result (has_failed_here self.new ≡ false) }
+        ensures when_failed { has_failed_here self.old ≡ true
+            → IsErrOf result Failed × OnlyReadsSectors self.old self.new }
+        ensures cause { IfErr result (IsJustifiedByMedium self.old self.new) }
+        ensures errors { IfErr result
+            (λ e. (IsFaultOrInvalidInputIf ⊥ e × (has_failed_here self.new ≡ true))
             ⊎ (e ≡ InvalidData)) }
     {
         if self.failed {
@@ -403,10 +410,10 @@ impl<F: Medium> Sectors<F> {
 
     /// Passes on what the medium keeps back, and publishes nothing.
     pub fn flush(&mut self) -> Result<(), Error>
-        ensures rests { Rests self.old self.new }
-        ensures failed { has_failed_here self.old ≡ true → IsErrOf result Failed }
-        ensures cause { IfErr result (HasItsCause self.old self.new) }
-        ensures fault { IfErr result (IsFaultUnless ⊥) }
+        ensures only_reads { OnlyReadsSectors self.old self.new }
+        ensures when_failed { has_failed_here self.old ≡ true → IsErrOf result Failed }
+        ensures cause { IfErr result (IsJustifiedByMedium self.old self.new) }
+        ensures errors { IfErr result (IsFaultOrInvalidInputIf ⊥) }
     {
         if self.failed {
             return Err(Error::Failed);
@@ -418,23 +425,23 @@ impl<F: Medium> Sectors<F> {
     pub fn commit(&mut self) -> Result<(), Error>
         ensures published { IsHonest self.old → OnOk result
             (F.has_published (medium_of self.new) (bytes_of self.old)) }
-        ensures left { IsHonest self.old → LeavesOldOrBytes self.old self.new }
+        ensures crash { IsHonest self.old → CrashLeavesOldOrBytes self.old self.new }
         ensures bytes { has_failed_here self.new ≡ false → IsHonest self.old
             → bytes_of self.new ≡ bytes_of self.old }
         ensures was_live { has_failed_here self.new ≡ false → has_failed_here self.old ≡ false }
         ensures honest { F.honest (medium_of self.new) ≡ F.honest (medium_of self.old) }
         ensures stays { (version_of self.new ≡ version_of self.old)
             × (count_of self.new ≡ count_of self.old) }
-        ensures live { OnOk result (has_failed_here self.new ≡ false) }
-        ensures err { OnErr result (has_failed_here self.new ≡ true) }
-        ensures failed { has_failed_here self.old ≡ true
-            → IsErrOf result Failed × Rests self.old self.new }
-        ensures cause { IfErr result (HasItsCause self.old self.new) }
+        ensures not_failed { OnOk result (has_failed_here self.new ≡ false) }
+        ensures after_error { OnErr result (has_failed_here self.new ≡ true) }
+        ensures when_failed { has_failed_here self.old ≡ true
+            → IsErrOf result Failed × OnlyReadsSectors self.old self.new }
+        ensures cause { IfErr result (IsJustifiedByMedium self.old self.new) }
         ensures medium { (F.failures (medium_of self.old) ≤ F.failures (medium_of self.new))
             × OnOk result (F.failed (medium_of self.new) ≡ F.failed (medium_of self.old)) }
         ensures cut { IfErr result (IsCutOff F.failed F.continues (medium_of self.old)
             (medium_of self.new)) }
-        ensures fault { IfErr result (IsFaultUnless ⊥) }
+        ensures errors { IfErr result (IsFaultOrInvalidInputIf ⊥) }
     {
         if self.failed {
             return Err(Error::Failed);
@@ -449,12 +456,12 @@ impl<F: Medium> Sectors<F> {
     /// sectors as they were: `InvalidInput` of a medium that doesn't survive a stop, `Failed` of one that has failed, `Memory`
     /// and `Device`.
     pub fn roll_back(self) -> Result<F, (Sectors<F>, Error)>
-        ensures rolled { IfOk result (RollsBack F.honest F.bytes F.continues F.has_published
+        ensures rolled { IfOk result (MediumRollsBack F.honest F.bytes F.continues F.has_published
             (medium_of self)) }
-        ensures rests { IfErr result (λ e. Rests self e.0) }
-        ensures cause { IfErr result (λ e. HasCauseSince F.continues F.failures F.failed
+        ensures only_reads { IfErr result (λ e. OnlyReadsSectors self e.0) }
+        ensures cause { IfErr result (λ e. IsJustifiedSince F.continues F.failures F.failed
             (medium_of self) (medium_of e.0) e.1) }
-        ensures fault { IfErr result (λ e. IsFaultUnless (F.survives ≡ false) e.1) }
+        ensures errors { IfErr result (λ e. IsFaultOrInvalidInputIf (F.survives ≡ false) e.1) }
     {
         let Sectors {
             mut inner,

@@ -2,11 +2,11 @@
 use Rattle.std.proofs.Common.{◌≡◌, ◌↔◌, ℕ, false, List, [], ◌∷◌, ◌++◌, refl, sym, ◌∙◌, ap, subst}
 use Rattle.std.specs.Prelude.{slice_get, slice_set, Some, nat_eq}
 use Rattle.std.specs.List.{IsDistinct}
-use Rattle.cfb_tree.specs.Names.{Letters}
+use Rattle.cfb_tree.specs.Names.{CaseTable}
 use Rattle.cfb_tree.specs.Paths.{Path}
 use Rattle.cfb_tree.specs.Tree.{Tree}
 use Rattle.cfb_tree.specs.Directory.{Entry, Siblings, no_entry}
-use Rattle.cfb_tree.specs.Objects.{Object, name_of, HoldsTree}
+use Rattle.cfb_tree.specs.Objects.{Object, name_of, EntriesHoldTree}
 use Rattle.cfb_tree.specs.Changes.{added, changed, holding, with_child}
 use Rattle.cfb_tree.proofs.NameOrder.{name_cmp_equal}
 use Rattle.cfb_tree.proofs.OneContent.{Some_same}
@@ -37,8 +37,8 @@ outside_of (Child id) p n within is other apart = subst (λ k. IsApart k (n ∷ 
 outside_of (Left id) p n within is other apart = tt
 outside_of (Right id) p n within is other apart = tt
 
-module _ (letters : Letters) (Reads : Entry → List ℕ → Type 0) (by_place : ReadsByPlace Reads) (old : List Entry) (tree : Tree) (path : Path) (p : ℕ)
-    (link : Link) (n : ℕ) (f : Entry) (object : Object) (h : HoldsTree letters Reads old tree) (s : IsStorageAt letters old path p)
+module _ (letters : CaseTable) (Reads : Entry → List ℕ → Type 0) (by_place : ReadsByPlace Reads) (old : List Entry) (tree : Tree) (path : Path) (p : ℕ)
+    (link : Link) (n : ℕ) (f : Entry) (object : Object) (h : EntriesHoldTree letters Reads old tree) (s : IsStorageAt letters old path p)
     (free : IsFree letters old p (name_of object) link) (unused : IsUnused old n) (alone : IsAlone Reads f object) where
   abbrev mid : List Entry
   mid = slice_set old n f

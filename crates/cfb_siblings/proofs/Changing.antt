@@ -1,7 +1,7 @@
 -- An object changes among its siblings.
 use Rattle.std.proofs.Common.{◌≡◌, ℕ, List, ◌∷◌, ◌++◌, sym, ◌∙◌, ap, subst}
 use Rattle.std.specs.Prelude.{slice_get, Some}
-use Rattle.cfb_tree.specs.Names.{Letters}
+use Rattle.cfb_tree.specs.Names.{CaseTable}
 use Rattle.cfb_tree.specs.Tree.{Facts, Content}
 use Rattle.cfb_tree.specs.Directory.{Entry, Siblings, Holds, HasName}
 use Rattle.cfb_tree.proofs.OneContent.{Some_same}
@@ -51,7 +51,7 @@ module _ (old new : List Entry) (Reads Reads' : Entry → List ℕ → Type 0) w
         holds,
       )
 
-  module _ (letters : Letters) where
+  module _ (letters : CaseTable) where
     -- LAW: the content with a change of the object that was found
     pub changed_holds : (wanted : List ℕ) (ids : List ℕ) (c : Content) (all : List ℕ) (at : ℕ)
         (it : Chosen old Reads letters wanted ids c all at) (change : Object → Object) (own : List ℕ)

@@ -6,14 +6,14 @@ use Rattle.std.specs.List.Sorted.{IsStrictlySortedBy}
 use Rattle.std.specs.Ordering.{is_eq}
 use Rattle.std.specs.declared.cmp.Ordering.{Ordering}
 use Rattle.std.specs.declared.cmp.Ordering.TheVariants.{Less, Equal, Greater}
-use Rattle.cfb_tree.specs.Names.{Letters, name_cmp}
+use Rattle.cfb_tree.specs.Names.{CaseTable, name_cmp}
 use Rattle.cfb_tree.specs.Tree.{Content, nothing, stream, storage, child_names}
 use Rattle.cfb_tree.specs.Directory.{Entry, Siblings, none, some, Holds, HasName, no_entry, greatest_entry}
 use Rattle.cfb_tree.specs.Objects.{before, name_of, is_same_name, child, joined_contents}
 use Rattle.cfb_tree.proofs.NameOrder.{name_cmp_total}
 use Rattle.cfb_tree.proofs.OneContent.{name_unique, siblings_unique, Some_same}
 use Rattle.cfb_siblings.specs.declared.links.Link.{Link}
-use Rattle.cfb_siblings.specs.Places.{IsNamed, Hangs, first, to_left, to_right}
+use Rattle.cfb_siblings.specs.Places.{IsEntryNamed, Hangs, first, to_left, to_right}
 use Rattle.cfb_siblings.proofs.Records.{Gap, Chosen, Found}
 use Rattle.cfb_siblings.proofs.Lists.{all_map, first_same, sorted_around}
 use Rattle.cfb_siblings.proofs.Joining.{names_joined, names_before, halves, headed}
@@ -79,8 +79,8 @@ what_hangs directory owner root link at front back ids (to_right outer id e befo
         → rest ++ ((before ++ id ∷ here) ++ back) ≡ front ++ (here ++ back)
     regroup rest before id here back front is = rw is (simp append_assoc refl)
 
-module _ (directory : List Entry) (Reads : Entry → List ℕ → Type 0) (letters : Letters) (wanted : List ℕ) where
-  pub order_is : (order : Ordering) (id : ℕ) (e : Entry) (name : List ℕ) → IsNamed letters directory wanted order id
+module _ (directory : List Entry) (Reads : Entry → List ℕ → Type 0) (letters : CaseTable) (wanted : List ℕ) where
+  pub order_is : (order : Ordering) (id : ℕ) (e : Entry) (name : List ℕ) → IsEntryNamed letters directory wanted order id
       → slice_get directory id ≡ Some e → HasName e name → name_cmp letters wanted name ≡ order
   order_is order id e name it found named =
       let is : it.entry ≡ e = Some_same (sym it.found ∙ found) in
@@ -92,44 +92,44 @@ module _ (directory : List Entry) (Reads : Entry → List ℕ → Type 0) (lette
 
   -- the names of entries are those of what they hold
   pub names_in_order : (order : Ordering) (c : Content) (ids all : List ℕ) → Holds directory Reads ids c all
-      → AllByRecursion (IsNamed letters directory wanted order) ids → AllByRecursion (λ name. name_cmp letters wanted name ≡ order) (child_names c)
+      → AllByRecursion (IsEntryNamed letters directory wanted order) ids → AllByRecursion (λ name. name_cmp letters wanted name ≡ order) (child_names c)
   names_in_order order nothing ids all h k = tt
   names_in_order order (stream n b x l) ids all (e, id, others, rest, is, all_is, at, reads, later) k =
-      let here = subst (AllByRecursion (IsNamed letters directory wanted order)) is k in
+      let here = subst (AllByRecursion (IsEntryNamed letters directory wanted order)) is k in
       (order_is order id e n here.0 at.found at.named, names_in_order order l others rest later here.1)
   names_in_order order (storage n f i l) ids all (e, id, others, children, within, rest, is, all_is, at, siblings, inside, later) k =
-      let here = subst (AllByRecursion (IsNamed letters directory wanted order)) is k in
+      let here = subst (AllByRecursion (IsEntryNamed letters directory wanted order)) is k in
       (order_is order id e n here.0 at.found at.named, names_in_order order l others rest later here.1)
 
   pub entries_in_order : (order : Ordering) (c : Content) (ids all : List ℕ) → Holds directory Reads ids c all
-      → AllByRecursion (λ name. name_cmp letters wanted name ≡ order) (child_names c) → AllByRecursion (IsNamed letters directory wanted order) ids
-  entries_in_order order nothing ids all (is, empty) k = subst (AllByRecursion (IsNamed letters directory wanted order)) (sym is) tt
+      → AllByRecursion (λ name. name_cmp letters wanted name ≡ order) (child_names c) → AllByRecursion (IsEntryNamed letters directory wanted order) ids
+  entries_in_order order nothing ids all (is, empty) k = subst (AllByRecursion (IsEntryNamed letters directory wanted order)) (sym is) tt
   entries_in_order order (stream n b x l) ids all (e, id, others, rest, is, all_is, at, reads, later) k =
-      subst (AllByRecursion (IsNamed letters directory wanted order)) (sym is) (
+      subst (AllByRecursion (IsEntryNamed letters directory wanted order)) (sym is) (
         record { entry = e; found = at.found; name = n; named = at.named; compared = k.0 },
         entries_in_order order l others rest later k.1,
       )
   entries_in_order order (storage n f i l) ids all (e, id, others, children, within, rest, is, all_is, at, siblings, inside, later) k =
-      subst (AllByRecursion (IsNamed letters directory wanted order)) (sym is) (
+      subst (AllByRecursion (IsEntryNamed letters directory wanted order)) (sym is) (
         record { entry = e; found = at.found; name = n; named = at.named; compared = k.0 },
         entries_in_order order l others rest later k.1,
       )
 
   -- among entries that hold other names none has the wanted one
   pub unnamed : (c : Content) (ids all : List ℕ) → Holds directory Reads ids c all
-      → AllByRecursion (λ name. is_same_name letters wanted name ≡ false) (child_names c) → AllByRecursion (λ id. IsNamed letters directory wanted Equal id → ⊥) ids
-  unnamed nothing ids all (is, empty) k = subst (AllByRecursion (λ id. IsNamed letters directory wanted Equal id → ⊥)) (sym is) tt
+      → AllByRecursion (λ name. is_same_name letters wanted name ≡ false) (child_names c) → AllByRecursion (λ id. IsEntryNamed letters directory wanted Equal id → ⊥) ids
+  unnamed nothing ids all (is, empty) k = subst (AllByRecursion (λ id. IsEntryNamed letters directory wanted Equal id → ⊥)) (sym is) tt
   unnamed (stream n b x l) ids all (e, id, others, rest, is, all_is, at, reads, later) k =
-      subst (AllByRecursion (λ id. IsNamed letters directory wanted Equal id → ⊥)) (sym is)
+      subst (AllByRecursion (λ id. IsEntryNamed letters directory wanted Equal id → ⊥)) (sym is)
       (λ it. other_name n (order_is Equal id e n it at.found at.named) k.0, unnamed l others rest later k.1)
   unnamed (storage n f i l) ids all (e, id, others, children, within, rest, is, all_is, at, siblings, inside, later) k =
-      subst (AllByRecursion (λ id. IsNamed letters directory wanted Equal id → ⊥)) (sym is)
+      subst (AllByRecursion (λ id. IsEntryNamed letters directory wanted Equal id → ⊥)) (sym is)
       (λ it. other_name n (order_is Equal id e n it at.found at.named) k.0, unnamed l others rest later k.1)
 
   -- the siblings around a free link
   pub gap_of : (owner root : ℕ) (ids : List ℕ) (c : Content) (all : List ℕ) (link : Link) (front back : List ℕ)
-      → Hangs directory owner root link no_entry front back → AllByRecursion (IsNamed letters directory wanted Greater) front
-      → AllByRecursion (IsNamed letters directory wanted Less) back
+      → Hangs directory owner root link no_entry front back → AllByRecursion (IsEntryNamed letters directory wanted Greater) front
+      → AllByRecursion (IsEntryNamed letters directory wanted Less) back
       → Siblings directory root ids → Holds directory Reads ids c all → Gap directory Reads letters wanted owner root ids c all link
   gap_of owner root ids c all link front back hangs before after siblings h =
       let it = what_hangs directory owner root link no_entry front back ids hangs siblings in
@@ -155,7 +155,7 @@ module _ (directory : List Entry) (Reads : Entry → List ℕ → Type 0) (lette
 
   -- an entry of the wanted name among rising siblings
   pub choose : (front : List ℕ) (at : ℕ) (back : List ℕ) (ids : List ℕ) (c : Content) (all : List ℕ) → ids ≡ front ++ at ∷ back
-      → Holds directory Reads ids c all → IsStrictlySortedBy (name_cmp letters) (child_names c) → IsNamed letters directory wanted Equal at
+      → Holds directory Reads ids c all → IsStrictlySortedBy (name_cmp letters) (child_names c) → IsEntryNamed letters directory wanted Equal at
       → Chosen directory Reads letters wanted ids c all at
   choose front at back ids c all ids_are h rising it =
       let parts = halves directory Reads front (at ∷ back) c all (subst (λ xs. Holds directory Reads xs c all) ids_are h) in
@@ -189,9 +189,9 @@ module _ (directory : List Entry) (Reads : Entry → List ℕ → Type 0) (lette
 
   -- no other has the name
   pub chosen_once : (ids : List ℕ) (c : Content) (all : List ℕ) (at other : ℕ) → Chosen directory Reads letters wanted ids c all at
-      → Chosen directory Reads letters wanted ids c all other → IsNamed letters directory wanted Equal at → IsNamed letters directory wanted Equal other → at ≡ other
+      → Chosen directory Reads letters wanted ids c all other → IsEntryNamed letters directory wanted Equal at → IsEntryNamed letters directory wanted Equal other → at ≡ other
   chosen_once ids c all at other it that named named' =
-      first_same (IsNamed letters directory wanted Equal) it.front at it.back that.front other that.back (sym it.ids_are ∙ that.ids_are) named named'
+      first_same (IsEntryNamed letters directory wanted Equal) it.front at it.back that.front other that.back (sym it.ids_are ∙ that.ids_are) named named'
       (unnamed it.earlier it.front it.earlier_all it.holds_earlier it.others) (unnamed that.earlier that.front that.earlier_all that.holds_earlier that.others)
 
   -- it is the child of that name
@@ -202,7 +202,7 @@ module _ (directory : List Entry) (Reads : Entry → List ℕ → Type 0) (lette
 
   -- the siblings around an entry to which a link leads
   pub found_of : (owner root : ℕ) (ids : List ℕ) (c : Content) (all : List ℕ) (link : Link) (at : ℕ) (front back : List ℕ)
-      → Hangs directory owner root link at front back → at ≤ greatest_entry → (it : IsNamed letters directory wanted Equal at)
+      → Hangs directory owner root link at front back → at ≤ greatest_entry → (it : IsEntryNamed letters directory wanted Equal at)
       → Siblings directory root ids → Holds directory Reads ids c all → IsStrictlySortedBy (name_cmp letters) (child_names c)
       → Found directory Reads letters wanted owner root ids c all link at it.entry
   unfolding choose

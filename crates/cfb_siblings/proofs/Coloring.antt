@@ -2,10 +2,10 @@
 use Rattle.std.proofs.Common.{◌≡◌, ◌⊎◌, ℕ, ◌≤◌, true, false, List, [], ◌∷◌, ◌++◌, inl, inr, refl, sym, ◌∙◌, ap, subst, arith}
 use Rattle.std.specs.Prelude.{slice_get, slice_set, nat_eq, Some, None, Option, IfSome}
 use Rattle.std.specs.List.{AllByRecursion, IsDistinct}
-use Rattle.cfb_tree.specs.Names.{Letters}
+use Rattle.cfb_tree.specs.Names.{CaseTable}
 use Rattle.cfb_tree.specs.Tree.{Content, nothing, stream, storage, Tree}
 use Rattle.cfb_tree.specs.Directory.{Entry, Siblings, none, some, Holds, no_entry, greatest_entry}
-use Rattle.cfb_tree.specs.Objects.{HoldsTree}
+use Rattle.cfb_tree.specs.Objects.{EntriesHoldTree}
 use Rattle.cfb_tree.proofs.NamesRead.{all_append}
 use Rattle.cfb_tree.proofs.OneContent.{Some_same}
 use Rattle.cfb_tree.specs.Entries.{IsColored}
@@ -89,7 +89,7 @@ module _ (directory : List Entry) (Reads : Entry → List ℕ → Type 0) where
       )
 
   -- in a tree
-  tree_links : (letters : Letters) (tree : Tree) (h : HoldsTree letters Reads directory tree) → AllByRecursion (LinksIn directory h.ids) h.ids
+  tree_links : (letters : CaseTable) (tree : Tree) (h : EntriesHoldTree letters Reads directory tree) → AllByRecursion (LinksIn directory h.ids) h.ids
   tree_links letters tree h = links_in h.ids tree.content h.children h.ids h.holds (λ x apart. apart)
       (all_map (LinksIn directory h.children) (LinksIn directory h.ids) h.children
       (wider directory h.children h.ids (λ x apart. outermost directory directory Reads Reads (λ k. nat_eq x k ≡ false) tree.content h.children h.ids h.holds apart))
@@ -117,8 +117,8 @@ unfolding IsDistinct
 root_apart ids once = once.0
 
 -- one entry less, to which none leads
-pub colored_less : (letters : Letters) (Reads : Entry → List ℕ → Type 0) (mid : List Entry) (tree : Tree) (ids : List ℕ) (id : ℕ) (g : Entry)
-    (h : HoldsTree letters Reads (slice_set mid id g) tree) → id ≤ greatest_entry → IsApart id (0 ∷ h.ids)
+pub colored_less : (letters : CaseTable) (Reads : Entry → List ℕ → Type 0) (mid : List Entry) (tree : Tree) (ids : List ℕ) (id : ℕ) (g : Entry)
+    (h : EntriesHoldTree letters Reads (slice_set mid id g) tree) → id ≤ greatest_entry → IsApart id (0 ∷ h.ids)
     → ((k : ℕ) → IsApart k (0 ∷ ids) → IsApart k (0 ∷ h.ids)) → AllByRecursion (IsColored mid) ids → AllByRecursion (IsColored (slice_set mid id g)) h.ids
 colored_less letters Reads mid tree ids id g h fits gone fewer old = for_members (IsColored (slice_set mid id g)) h.ids
     (λ k member. elim (member_or (IsColored mid) ids k old) [

@@ -2,11 +2,11 @@
 use Rattle.std.proofs.Common.{◌≡◌, ℕ, false, List, [], ◌∷◌, ◌++◌, refl, sym, ◌∙◌, ap, subst}
 use Rattle.std.specs.Prelude.{slice_get, slice_set, Some, nat_eq, codes}
 use Rattle.std.specs.List.{AllByRecursion, IsDistinct}
-use Rattle.cfb_tree.specs.Names.{Letters}
+use Rattle.cfb_tree.specs.Names.{CaseTable}
 use Rattle.cfb_tree.specs.Paths.{Path}
 use Rattle.cfb_tree.specs.Tree.{IsOrdered, Tree}
 use Rattle.cfb_tree.specs.Directory.{Entry, Siblings, Holds}
-use Rattle.cfb_tree.specs.Objects.{Object, a_stream, a_storage, name_of, root_object, tree_of, object_at, IsObject, HoldsTree}
+use Rattle.cfb_tree.specs.Objects.{Object, a_stream, a_storage, name_of, root_object, tree_of, object_at, IsObject, EntriesHoldTree}
 use Rattle.cfb_tree.specs.Changes.{changed}
 use Rattle.cfb_tree.proofs.OneContent.{Some_same}
 use Rattle.cfb_siblings.specs.Changes.{IsApart, HasSameLinks, ObjectBecomes, KeepBytes, HoldsOn}
@@ -69,7 +69,7 @@ name_stays Reads f (a_storage n h i) (a_storage n' h' i') is = is.0
 name_stays Reads f (a_stream n b x) (a_storage n' h' i') is = absurd is
 name_stays Reads f (a_storage n h i) (a_stream n' b' x') is = absurd is
 
-order_stays : (letters : Letters) (Reads : Entry → List ℕ → Type 0) (f : Entry) (o other : Object) → ObjectBecomes Reads f o other
+order_stays : (letters : CaseTable) (Reads : Entry → List ℕ → Type 0) (f : Entry) (o other : Object) → ObjectBecomes Reads f o other
     → IsOrderedObject letters o → IsOrderedObject letters other
 order_stays letters Reads f (a_stream n b x) (a_stream n' b' x') is h = tt
 order_stays letters Reads f (a_storage n h' i) (a_storage n' h'' i') is h = subst (IsOrdered letters) (sym is.2) h
@@ -80,7 +80,7 @@ once_parts : (ids : List ℕ) → IsDistinct nat_eq (0 ∷ ids) → IsApart 0 id
 unfolding IsDistinct
 once_parts ids once = (once.0, once.1)
 
-module _ (letters : Letters) (Reads Reads' : Entry → List ℕ → Type 0) (old : List Entry) (tree : Tree) (f : Entry) (h : HoldsTree letters Reads old tree) where
+module _ (letters : CaseTable) (Reads Reads' : Entry → List ℕ → Type 0) (old : List Entry) (tree : Tree) (f : Entry) (h : EntriesHoldTree letters Reads old tree) where
   -- the root's facts
   root_became : (other : Object) (e : Entry) → slice_get old 0 ≡ Some e → HasSameLinks e f → ObjectBecomes Reads' f (root_object tree) other
       → KeepBytes Reads Reads' old 0 h.ids → HoldsOn letters Reads' (slice_set old 0 f) (tree_of tree other) h.ids

@@ -2,16 +2,16 @@
 use Rattle.std.proofs.Common.{◌≡◌, ℕ, ◌+◌, ◌≤◌, List, [], ◌∷◌, ◌++◌, length, sym, ◌∙◌, ap, subst, arith}
 use Rattle.std.specs.Prelude.{Some, None, slice_get}
 use Rattle.std.specs.declared.cmp.Ordering.TheVariants.{Less, Equal, Greater}
-use Rattle.cfb_tree.specs.Names.{Letters, name_cmp}
+use Rattle.cfb_tree.specs.Names.{CaseTable, name_cmp}
 use Rattle.cfb_tree.specs.Paths.{Path}
 use Rattle.cfb_tree.specs.Tree.{Tree}
 use Rattle.cfb_tree.specs.Directory.{Entry, Siblings, none, some, HasName, no_entry}
-use Rattle.cfb_tree.specs.Objects.{name_of, root_object, object_from, HoldsTree}
+use Rattle.cfb_tree.specs.Objects.{name_of, root_object, object_from, EntriesHoldTree}
 use Rattle.cfb_tree.proofs.OneContent.{Some_same}
 use Rattle.cfb_siblings.specs.declared.links.Link.{Link}
 use Rattle.cfb_siblings.specs.declared.links.Link.TheVariants.{Child, Left, Right}
 use Rattle.cfb_siblings.specs.declared.places.Place.TheVariants.{Taken, Free}
-use Rattle.cfb_siblings.specs.Places.{Hangs, IsNamed, IsStorageAt, IsPlace}
+use Rattle.cfb_siblings.specs.Places.{Hangs, IsEntryNamed, IsStorageAt, IsPlace}
 use Rattle.cfb_siblings.specs.Rotations.{IsReached}
 use Rattle.cfb_siblings.proofs.Records.{Searched}
 use Rattle.cfb_siblings.proofs.Bounds.{owner_fits}
@@ -22,8 +22,8 @@ use Rattle.cfb_siblings.proofs.Searching.{begun, not_found, middle, object_named
 use Rattle.cfb_siblings.proofs.Trees.{Storing, storing, storing_once}
 use Rattle.cfb_siblings.proofs.Turning.{hung_fits}
 
-module _ (letters : Letters) (directory : List Entry) (Reads : Entry → List ℕ → Type 0) (wanted : List ℕ) (tree : Tree) (path : Path) (parent : ℕ)
-    (h : HoldsTree letters Reads directory tree) (s : IsStorageAt letters directory path parent) where
+module _ (letters : CaseTable) (directory : List Entry) (Reads : Entry → List ℕ → Type 0) (wanted : List ℕ) (tree : Tree) (path : Path) (parent : ℕ)
+    (h : EntriesHoldTree letters Reads directory tree) (s : IsStorageAt letters directory path parent) where
   pub at_storage : Storing directory Reads Reads letters tree path parent h.ids
   at_storage = storing directory Reads Reads letters tree h path parent s
 
@@ -106,7 +106,7 @@ module _ (letters : Letters) (directory : List Entry) (Reads : Entry → List �
         on_level own named level =
             let same : at_storage.entry ≡ s.owner.entry = Some_same (sym at_storage.found ∙ s.owner.found) in
             let m = middle directory Reads at e it.here it.there it.there_all some_entry found it.siblings it.holds_there in
-            let is : IsNamed letters directory wanted Equal at = record { entry = e; found = found; name = own; named = named; compared = level } in
+            let is : IsEntryNamed letters directory wanted Equal at = record { entry = e; found = found; name = own; named = named; compared = level } in
             let f = found_of directory Reads letters wanted parent at_storage.entry.child at_storage.children at_storage.inside at_storage.within link at it.front it.back
             it.hangs m.fits is at_storage.siblings at_storage.holds at_storage.ordered.0 in (
               record {

@@ -3,11 +3,11 @@ use Rattle.std.proofs.Common.{◌≡◌, ℕ, Bool, IsTrue, true, false, not, Li
 use Rattle.std.specs.Prelude.{Some, None, Option, slice_get, codes, chars, nat_eq}
 use Rattle.std.specs.Borrow.{Bor}
 use Rattle.std.proofs.lemmas.List.{drop_more}
-use Rattle.cfb_tree.specs.Names.{Letters}
+use Rattle.cfb_tree.specs.Names.{CaseTable}
 use Rattle.cfb_tree.specs.Paths.{Path}
 use Rattle.cfb_tree.specs.Tree.{Tree}
 use Rattle.cfb_tree.specs.Directory.{Entry, kind_stream, kind_storage, kind_root}
-use Rattle.cfb_tree.specs.Objects.{Object, a_stream, a_storage, inside_of, root_object, child, object_from, object_at, IsObject, HoldsTree}
+use Rattle.cfb_tree.specs.Objects.{Object, a_stream, a_storage, inside_of, root_object, child, object_from, object_at, IsObject, EntriesHoldTree}
 use Rattle.cfb_tree.proofs.OneContent.{Some_same}
 use Rattle.cfb_siblings.specs.declared.links.Link.{Link}
 use Rattle.cfb_siblings.specs.declared.places.Place.TheVariants.{Taken, Free}
@@ -15,11 +15,11 @@ use Rattle.cfb_siblings.specs.Places.{path_of, HasEntry, IsOwner, LeadsTo, IsSto
 use Rattle.cfb_siblings.proofs.Frames.{either_same}
 use Rattle.cfb_siblings.proofs.Spots.{spot}
 
-pub object_from_none : (letters : Letters) (path : Path) → object_from letters None path ≡ None
+pub object_from_none : (letters : CaseTable) (path : Path) → object_from letters None path ≡ None
 object_from_none letters [] = refl
 object_from_none letters (name ∷ names) = refl
 
-object_from_joined : (letters : Letters) (o : Option Object) (xs ys : Path)
+object_from_joined : (letters : CaseTable) (o : Option Object) (xs ys : Path)
     → object_from letters o (xs ++ ys) ≡ object_from letters (object_from letters o xs) ys
 object_from_joined letters None xs ys =
     object_from_none letters (xs ++ ys) ∙ sym (object_from_none letters ys) ∙ ap (λ x. object_from letters x ys) (sym (object_from_none letters xs))
@@ -30,13 +30,13 @@ apart_kinds : (k : ℕ) → k ≡ kind_stream → nat_eq k kind_stream ≡ false
 apart_kinds k is other = grind arith
 
 stream_kind : (directory : List Entry) (Reads : Entry → List ℕ → Type 0) (id : ℕ) (e : Entry) (o : Object) (own : List ℕ)
-    → IsObject directory Reads id o own → slice_get directory id ≡ Some e → e.kind ≡ kind_stream → (letters : Letters) (name : List ℕ) (rest : Path)
+    → IsObject directory Reads id o own → slice_get directory id ≡ Some e → e.kind ≡ kind_stream → (letters : CaseTable) (name : List ℕ) (rest : Path)
     → object_from letters (Some o) (name ∷ rest) ≡ None
 stream_kind directory Reads id e (a_stream n b x) own is found kind letters name rest = object_from_none letters rest
 stream_kind directory Reads id e (a_storage n f i) own (g, children, at, siblings, inside) found kind letters name rest =
     let never : kind_storage ≡ kind_stream = sym at.of_kind ∙ ap (λ y. y.kind) (Some_same (sym at.found ∙ found)) ∙ kind in absurd (omega (arith, never))
 
-module _ (letters : Letters) (Reads : Entry → List ℕ → Type 0) (directory : List Entry) (tree : Tree) (h : HoldsTree letters Reads directory tree) where
+module _ (letters : CaseTable) (Reads : Entry → List ℕ → Type 0) (directory : List Entry) (tree : Tree) (h : EntriesHoldTree letters Reads directory tree) where
   -- where a path leads there is an object
   pub entry_at : (path : Path) (id : ℕ) → LeadsTo letters directory 0 path id → IsEntryAt Reads letters directory tree path id
   entry_at [] id leads =

@@ -4,7 +4,7 @@ use Rattle.std.specs.Prelude.{slice_get, Some, nat_eq}
 use Rattle.std.specs.List.{IsDistinct}
 use Rattle.std.specs.List.Sorted.{IsStrictlySortedBy}
 use Rattle.std.specs.declared.cmp.Ordering.TheVariants.{Less, Greater}
-use Rattle.cfb_tree.specs.Names.{Letters, name_cmp}
+use Rattle.cfb_tree.specs.Names.{CaseTable, name_cmp}
 use Rattle.cfb_tree.specs.Tree.{Content, child_names, IsOrdered, IsOrderedInside}
 use Rattle.cfb_tree.specs.Directory.{Entry, Siblings, none, some, Holds, no_entry, greatest_entry}
 use Rattle.cfb_tree.specs.Objects.{Object, before, name_of, joined_contents, IsObject}
@@ -45,7 +45,7 @@ outside_with (Child id) n xs ys h =
 outside_with (Left id) n xs ys h = tt
 outside_with (Right id) n xs ys h = tt
 
-module _ (old mid new : List Entry) (Reads : Entry → List ℕ → Type 0) (by_place : ReadsByPlace Reads) (letters : Letters)
+module _ (old mid new : List Entry) (Reads : Entry → List ℕ → Type 0) (by_place : ReadsByPlace Reads) (letters : CaseTable)
     (object : Object) (n : ℕ) (f : Entry) (owner root : ℕ) (ids : List ℕ) (c : Content) (all : List ℕ) (link : Link)
     (it : Gap old Reads letters (name_of object) owner root ids c all link) (once : IsDistinct nat_eq all)
     -- the entry was unused, and is written

@@ -1,7 +1,7 @@
 -- The order of names, at all depths, after a change of one object.
 use Rattle.std.proofs.Common.{◌≡◌, ℕ, List, ◌∷◌, ◌++◌, sym, ◌∙◌, ap, subst}
 use Rattle.std.specs.List.Sorted.{IsStrictlySortedBy}
-use Rattle.cfb_tree.specs.Names.{Letters, name_cmp}
+use Rattle.cfb_tree.specs.Names.{CaseTable, name_cmp}
 use Rattle.cfb_tree.specs.Tree.{Content, child_names, IsOrdered, IsOrderedInside}
 use Rattle.cfb_tree.specs.Directory.{Entry}
 use Rattle.cfb_tree.specs.Objects.{Object, before, name_of, joined_contents}
@@ -12,7 +12,7 @@ use Rattle.cfb_siblings.proofs.Naming.{changed_past, changed_here, without_past,
 use Rattle.cfb_siblings.proofs.Lists.{sorted_without}
 use Rattle.cfb_siblings.proofs.Ordering.{IsOrderedObject, inside_joined, inside_parts, inside_before, before_parts, inside_without}
 
-module _ (directory : List Entry) (Reads : Entry → List ℕ → Type 0) (letters : Letters) (wanted : List ℕ) (ids : List ℕ) (c : Content) (all : List ℕ)
+module _ (directory : List Entry) (Reads : Entry → List ℕ → Type 0) (letters : CaseTable) (wanted : List ℕ) (ids : List ℕ) (c : Content) (all : List ℕ)
     (at : ℕ) (it : Chosen directory Reads letters wanted ids c all at) where
   names_around : (o : Object) → child_names (joined_contents it.earlier (before o it.later)) ≡ child_names it.earlier ++ name_of o ∷ child_names it.later
   names_around o = names_joined it.earlier (before o it.later) ∙ ap (λ ns. child_names it.earlier ++ ns) (names_before o it.later)

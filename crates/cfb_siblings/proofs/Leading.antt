@@ -1,7 +1,7 @@
 -- Paths, one name longer.
 use Rattle.std.proofs.Common.{◌≡◌, ℕ, ◌-◌, List, [], ◌∷◌, ◌++◌, refl, sym, ◌∙◌, ap, length, take, length-append, arith}
 use Rattle.std.specs.Prelude.{Option, Some, None}
-use Rattle.cfb_tree.specs.Names.{Letters}
+use Rattle.cfb_tree.specs.Names.{CaseTable}
 use Rattle.cfb_tree.specs.Paths.{Path}
 use Rattle.cfb_tree.specs.Directory.{Entry}
 use Rattle.cfb_tree.specs.Objects.{Object, inside_of, child, object_from}
@@ -9,14 +9,14 @@ use Rattle.cfb_tree.specs.Changes.{parent_of, last_of}
 use Rattle.cfb_siblings.specs.Places.{IsChild, LeadsTo, path_to}
 use Rattle.cfb_siblings.proofs.Following.{object_from_none}
 
-pub object_from_last : (letters : Letters) (o : Option Object) (above : Path) (wanted : List ℕ)
+pub object_from_last : (letters : CaseTable) (o : Option Object) (above : Path) (wanted : List ℕ)
     → object_from letters o (path_to above wanted) ≡ object_from letters (object_from letters o above) (wanted ∷ [])
 object_from_last letters None above wanted =
     object_from_none letters (above ++ wanted ∷ []) ∙ ap (λ x. object_from letters x (wanted ∷ [])) (sym (object_from_none letters above))
 object_from_last letters (Some o) [] wanted = refl
 object_from_last letters (Some o) (name ∷ names) wanted = object_from_last letters (child letters (inside_of o) name) names wanted
 
-pub leads_on : (letters : Letters) (directory : List Entry) (names : Path) (start parent : ℕ) (wanted : List ℕ) (id : ℕ)
+pub leads_on : (letters : CaseTable) (directory : List Entry) (names : Path) (start parent : ℕ) (wanted : List ℕ) (id : ℕ)
     → LeadsTo letters directory start names parent → IsChild letters directory parent wanted id → LeadsTo letters directory start (path_to names wanted) id
 leads_on letters directory [] start parent wanted id is child = (id, rw is at child, refl)
 leads_on letters directory (name ∷ names) start parent wanted id (next, first, rest) child =

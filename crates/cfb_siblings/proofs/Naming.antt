@@ -4,14 +4,14 @@ use Rattle.std.specs.Prelude.{Some, None}
 use Rattle.std.specs.List.{AllByRecursion}
 use Rattle.std.specs.Ordering.{is_eq, ordering_reverse}
 use Rattle.std.specs.declared.cmp.Ordering.TheVariants.{Less, Greater}
-use Rattle.cfb_tree.specs.Names.{Letters, name_cmp}
+use Rattle.cfb_tree.specs.Names.{CaseTable, name_cmp}
 use Rattle.cfb_tree.specs.Tree.{Content, nothing, stream, storage, child_names}
 use Rattle.cfb_tree.proofs.NameOrder.{name_cmp_total}
 use Rattle.cfb_tree.specs.Objects.{Object, a_stream, a_storage, before, name_of, is_same_name, child, joined_contents}
 use Rattle.cfb_tree.specs.Changes.{with_child, without_child, with_changed}
 use Rattle.cfb_siblings.proofs.Lists.{all_map}
 
-module _ (letters : Letters) (wanted : List ℕ) where
+module _ (letters : CaseTable) (wanted : List ℕ) where
   -- turned comparisons
   pub less_turned : (name : List ℕ) → name_cmp letters name wanted ≡ Less → name_cmp letters wanted name ≡ Greater
   less_turned name e = (name_cmp_total letters).antisymm wanted name ∙ ap ordering_reverse e
@@ -65,7 +65,7 @@ module _ (letters : Letters) (wanted : List ℕ) where
   changed_here change (a_stream n s x) d h = rw h
   changed_here change (a_storage n f i) d h = rw h
 
-module _ (letters : Letters) (o : Object) where
+module _ (letters : CaseTable) (o : Object) where
   pub with_past : (c d : Content) → AllByRecursion (λ name. name_cmp letters (name_of o) name ≡ Greater) (child_names c)
       → with_child letters o (joined_contents c d) ≡ joined_contents c (with_child letters o d)
   with_past nothing d h = refl

@@ -1,9 +1,9 @@
 -- Contents stay in order, at all depths.
-use Rattle.cfb_tree.specs.Names.{Letters}
+use Rattle.cfb_tree.specs.Names.{CaseTable}
 use Rattle.cfb_tree.specs.Tree.{Content, nothing, stream, storage, IsOrderedInside, IsOrdered}
 use Rattle.cfb_tree.specs.Objects.{Object, a_stream, a_storage, before, joined_contents}
 
-module _ (letters : Letters) where
+module _ (letters : CaseTable) where
   -- what an object holds is in order
   abbrev pub IsOrderedObject : Object → Type 0
   IsOrderedObject (a_stream name state_bits bytes) = Unit {0}

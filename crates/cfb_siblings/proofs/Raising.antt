@@ -2,11 +2,11 @@
 use Rattle.std.proofs.Common.{◌≡◌, ◌≢◌, ℕ, ◌≤◌, false, List, [], ◌∷◌, ◌++◌, refl, sym, ◌∙◌, ap, subst, append_assoc}
 use Rattle.std.specs.Prelude.{slice_get, Option, Some, None, IfSome, nat_eq}
 use Rattle.std.specs.List.{IsDistinct}
-use Rattle.cfb_tree.specs.Names.{Letters}
+use Rattle.cfb_tree.specs.Names.{CaseTable}
 use Rattle.cfb_tree.specs.Paths.{Path}
 use Rattle.cfb_tree.specs.Tree.{Tree}
 use Rattle.cfb_tree.specs.Directory.{Entry, Siblings, no_entry, greatest_entry}
-use Rattle.cfb_tree.specs.Objects.{HoldsTree}
+use Rattle.cfb_tree.specs.Objects.{EntriesHoldTree}
 use Rattle.cfb_tree.proofs.OneContent.{Some_same}
 use Rattle.cfb_siblings.specs.Changes.{IsApart}
 use Rattle.cfb_siblings.specs.Links.{holder, relinked}
@@ -27,8 +27,8 @@ use Rattle.cfb_siblings.proofs.Taking.{outside_one}
 use Rattle.cfb_siblings.proofs.Rotating.{st, ids_once, p_apart, p_children, Kept, kept_first, kept_next, step, owner_now, holds_still}
 use Rattle.cfb_siblings.proofs.Turning.{hung_fits, AreApart, two_apart, siblings_both, hangs_both, left_raised, right_raised, hangs_relinked}
 
-module _ (letters : Letters) (Reads : Entry → List ℕ → Type 0) (by_place : ReadsByPlace Reads) (old : List Entry) (tree : Tree) (path : Path) (p : ℕ)
-    (h : HoldsTree letters Reads old tree) (s : IsStorageAt letters old path p) (link : Link) (upper : ℕ) (reached : IsReached old p link upper) where
+module _ (letters : CaseTable) (Reads : Entry → List ℕ → Type 0) (by_place : ReadsByPlace Reads) (old : List Entry) (tree : Tree) (path : Path) (p : ℕ)
+    (h : EntriesHoldTree letters Reads old tree) (s : IsStorageAt letters old path p) (link : Link) (upper : ℕ) (reached : IsReached old p link upper) where
   abbrev root : ℕ
   root = (st letters Reads by_place old tree path p h s).entry.child
 
@@ -246,7 +246,7 @@ module _ (letters : Letters) (Reads : Entry → List ℕ → Type 0) (by_place :
   turns it (raises_right u l u_found more l_found is) = subst Turned (sym is) (right_turns u l u_found more l_found)
 
 -- the link to the upper one is the last that the rotation sets
-pub rises : (letters : Letters) (directory : List Entry) (parent : ℕ) (link : Link) (upper : ℕ) (o : Option Rotation) → IfSome o (IsRotation directory link upper)
+pub rises : (letters : CaseTable) (directory : List Entry) (parent : ℕ) (link : Link) (upper : ℕ) (o : Option Rotation) → IfSome o (IsRotation directory link upper)
     → HasEntry directory (holder link) × LeadsIn letters directory parent link upper → IfSome o (TurnsIn letters directory parent)
 rises letters directory parent link upper None planned (there, leads) = tt
 rises letters directory parent link upper (Some it) planned (there, leads) =

@@ -2,7 +2,7 @@
 use Rattle.std.specs.Prelude.{◌≡◌, ℕ, ◌+◌, ◌≤◌, length, true, false, List, [], ◌∷◌, ◌++◌, slice_get, Some}
 use Rattle.std.specs.List.{AllByRecursion}
 use Rattle.std.specs.declared.cmp.Ordering.TheVariants.{Less, Greater}
-use Rattle.cfb_tree.specs.Names.{Letters, name_cmp}
+use Rattle.cfb_tree.specs.Names.{CaseTable, name_cmp}
 use Rattle.cfb_tree.specs.Tree.{Content, child_names}
 use Rattle.cfb_tree.specs.Directory.{Entry, Siblings, Holds, no_entry}
 use Rattle.cfb_tree.specs.Objects.{Object, before, name_of, is_same_name, joined_contents, IsObject}
@@ -11,7 +11,7 @@ use Rattle.cfb_siblings.specs.Places.{Hangs}
 
 -- the search for `wanted` from `root` on came by so many steps over the link to `at`: of the siblings `ids`, which hold the content, those in
 -- front come before the wanted name, those at the back after it, and the others hang at `at`
-pub record Searched (directory : List Entry) (Reads : Entry → List ℕ → Type 0) (letters : Letters) (wanted : List ℕ) (owner root : ℕ)
+pub record Searched (directory : List Entry) (Reads : Entry → List ℕ → Type 0) (letters : CaseTable) (wanted : List ℕ) (owner root : ℕ)
     (ids : List ℕ) (c : Content) (all : List ℕ) (link : Link) (at steps : ℕ) : Type 0 where
   pub front : List ℕ
   pub here : List ℕ
@@ -35,7 +35,7 @@ pub record Searched (directory : List Entry) (Reads : Entry → List ℕ → Typ
   pub bound : steps + length here ≤ length ids
 
 -- the siblings `ids`, which hold the content, before and after a link at which the wanted name is to hang
-pub record Gap (directory : List Entry) (Reads : Entry → List ℕ → Type 0) (letters : Letters) (wanted : List ℕ) (owner root : ℕ)
+pub record Gap (directory : List Entry) (Reads : Entry → List ℕ → Type 0) (letters : CaseTable) (wanted : List ℕ) (owner root : ℕ)
     (ids : List ℕ) (c : Content) (all : List ℕ) (link : Link) : Type 0 where
   pub front : List ℕ
   pub back : List ℕ
@@ -53,7 +53,7 @@ pub record Gap (directory : List Entry) (Reads : Entry → List ℕ → Type 0) 
   pub above : AllByRecursion (λ name. name_cmp letters wanted name ≡ Less) (child_names later)
 
 -- entry `at` of the siblings `ids`, which hold the content, is the object of the wanted name
-pub record Chosen (directory : List Entry) (Reads : Entry → List ℕ → Type 0) (letters : Letters) (wanted : List ℕ)
+pub record Chosen (directory : List Entry) (Reads : Entry → List ℕ → Type 0) (letters : CaseTable) (wanted : List ℕ)
     (ids : List ℕ) (c : Content) (all : List ℕ) (at : ℕ) : Type 0 where
   pub front : List ℕ
   pub back : List ℕ
@@ -73,7 +73,7 @@ pub record Chosen (directory : List Entry) (Reads : Entry → List ℕ → Type 
   pub level : is_same_name letters wanted (name_of object) ≡ true
 
 -- the same of an entry to which the link leads, with the siblings that hang at it on both sides
-pub record Found (directory : List Entry) (Reads : Entry → List ℕ → Type 0) (letters : Letters) (wanted : List ℕ) (owner root : ℕ)
+pub record Found (directory : List Entry) (Reads : Entry → List ℕ → Type 0) (letters : CaseTable) (wanted : List ℕ) (owner root : ℕ)
     (ids : List ℕ) (c : Content) (all : List ℕ) (link : Link) (at : ℕ) (e : Entry) : Type 0 where
   pub found : slice_get directory at ≡ Some e
   pub front : List ℕ

@@ -2,7 +2,7 @@
 use Rattle.std.proofs.Common.{◌≡◌, ℕ, false, List, [], ◌∷◌, ◌++◌, refl, sym, ◌∙◌, ap, subst, append_assoc, append-nil}
 use Rattle.std.specs.Prelude.{nat_eq}
 use Rattle.std.specs.List.{IsDistinct}
-use Rattle.cfb_tree.specs.Names.{Letters}
+use Rattle.cfb_tree.specs.Names.{CaseTable}
 use Rattle.cfb_tree.specs.Tree.{Content}
 use Rattle.cfb_tree.specs.Directory.{Entry, Siblings, Holds, no_entry}
 use Rattle.cfb_tree.proofs.NamesRead.{all_append}
@@ -98,7 +98,7 @@ module _ (old mid : List Entry) (Reads : Entry → List ℕ → Type 0) (by_plac
       spliced_within owner root link at start (Right last) r place' tt deep on_right walk once all_once
       (front ++ place'.0, place'.1 ++ (rights ++ back), widened front lefts rights back place'.0 last place'.1 place'.2) h
 
-module _ (old : List Entry) (Reads : Entry → List ℕ → Type 0) (by_place : ReadsByPlace Reads) (letters : Letters)
+module _ (old : List Entry) (Reads : Entry → List ℕ → Type 0) (by_place : ReadsByPlace Reads) (letters : CaseTable)
     (wanted : List ℕ) (owner root : ℕ) (ids : List ℕ) (c : Content) (all : List ℕ) (link : Link) (at : ℕ) (e : Entry)
     (it : Found old Reads letters wanted owner root ids c all link at e) (once : IsDistinct nat_eq all) (outside : IsOutside link all) where
   -- the siblings that are left, and the entries at all depths

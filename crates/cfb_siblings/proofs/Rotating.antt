@@ -2,11 +2,11 @@
 use Rattle.std.proofs.Common.{◌≡◌, ℕ, false, List, [], ◌∷◌, ◌++◌, ◌⊎◌, inl, inr, refl, sym, ◌∙◌, ap, subst, append_assoc, arith}
 use Rattle.std.specs.Prelude.{slice_get, Some, nat_eq}
 use Rattle.std.specs.List.{IsDistinct}
-use Rattle.cfb_tree.specs.Names.{Letters}
+use Rattle.cfb_tree.specs.Names.{CaseTable}
 use Rattle.cfb_tree.specs.Paths.{Path}
 use Rattle.cfb_tree.specs.Tree.{Tree}
 use Rattle.cfb_tree.specs.Directory.{Entry, Siblings, Holds}
-use Rattle.cfb_tree.specs.Objects.{Object, HoldsTree, IsObject}
+use Rattle.cfb_tree.specs.Objects.{Object, EntriesHoldTree, IsObject}
 use Rattle.cfb_tree.specs.Entries.{IsBlackAt, IsColored}
 use Rattle.cfb_tree.proofs.OneContent.{Some_same, siblings_unique}
 use Rattle.cfb_siblings.specs.Changes.{IsApart}
@@ -47,8 +47,8 @@ facts_then e f g first second = record {
   facts = second.facts ∙ first.facts;
 }
 
-module _ (letters : Letters) (Reads : Entry → List ℕ → Type 0) (by_place : ReadsByPlace Reads) (old : List Entry) (tree : Tree) (path : Path) (p : ℕ)
-    (h : HoldsTree letters Reads old tree) (s : IsStorageAt letters old path p) where
+module _ (letters : CaseTable) (Reads : Entry → List ℕ → Type 0) (by_place : ReadsByPlace Reads) (old : List Entry) (tree : Tree) (path : Path) (p : ℕ)
+    (h : EntriesHoldTree letters Reads old tree) (s : IsStorageAt letters old path p) where
   pub st : Storing old Reads Reads letters tree path p h.ids
   st = storing old Reads Reads letters tree h path p s
 

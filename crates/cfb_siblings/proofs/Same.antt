@@ -1,7 +1,7 @@
 -- A change that changes nothing, and what an object has inside.
 use Rattle.std.proofs.Common.{◌≡◌, ℕ, Bool, true, false, List, [], ◌∷◌, ◌++◌, append-nil, refl, sym, ◌∙◌, ap}
 use Rattle.std.specs.Prelude.{if◌then◌else◌}
-use Rattle.cfb_tree.specs.Names.{Letters}
+use Rattle.cfb_tree.specs.Names.{CaseTable}
 use Rattle.cfb_tree.specs.Paths.{Path}
 use Rattle.cfb_tree.specs.Tree.{Content, nothing, stream, storage, Tree}
 use Rattle.cfb_tree.specs.Directory.{Entry, Holds}
@@ -11,7 +11,7 @@ use Rattle.cfb_tree.proofs.OneContent.{holds_unique}
 use Rattle.cfb_siblings.specs.Places.{HasEntry}
 use Rattle.cfb_siblings.proofs.Joining.{head}
 
-module _ (letters : Letters) where
+module _ (letters : CaseTable) where
   same_content : (name : List ℕ) (f : Object → Object) → ((o : Object) → f o ≡ o) → (c : Content) → with_changed letters name f c ≡ c
   same_content name f same nothing = refl
   same_content name f same (stream n b x l) = either (is_same_name letters name n) (same_content name f same l)

@@ -4,7 +4,7 @@ use Rattle.std.specs.Prelude.{slice_get, Some, None}
 use Rattle.std.specs.List.{AllByRecursion}
 use Rattle.std.specs.List.Sorted.{IsStrictlySortedBy}
 use Rattle.std.specs.declared.cmp.Ordering.TheVariants.{Less, Greater}
-use Rattle.cfb_tree.specs.Names.{Letters, name_cmp}
+use Rattle.cfb_tree.specs.Names.{CaseTable, name_cmp}
 use Rattle.cfb_tree.specs.Tree.{Content, nothing, stream, storage, child_names}
 use Rattle.cfb_tree.specs.Directory.{Entry, Siblings, none, some, Holds, HasName, no_entry, greatest_entry}
 use Rattle.cfb_tree.proofs.NameOrder.{name_cmp_total}
@@ -80,7 +80,7 @@ module _ (directory : List Entry) (Reads : Entry → List ℕ → Type 0) where
         holds_later = own.holds_later;
       }
 
-module _ (directory : List Entry) (Reads : Entry → List ℕ → Type 0) (letters : Letters) (wanted : List ℕ) (owner root : ℕ)
+module _ (directory : List Entry) (Reads : Entry → List ℕ → Type 0) (letters : CaseTable) (wanted : List ℕ) (owner root : ℕ)
     (ids : List ℕ) (c : Content) (all : List ℕ) where
   -- the search begins
   pub begun : Siblings directory root ids → Holds directory Reads ids c all

@@ -3,7 +3,7 @@ use Rattle.std.proofs.Common.{◌≡◌, ℕ, List, [], ◌∷◌, ◌++◌, ref
 use Rattle.std.specs.Prelude.{slice_get, Some}
 use Rattle.std.specs.List.{AllByRecursion}
 use Rattle.std.specs.declared.cmp.Ordering.TheVariants.{Equal}
-use Rattle.cfb_tree.specs.Names.{Letters}
+use Rattle.cfb_tree.specs.Names.{CaseTable}
 use Rattle.cfb_tree.specs.Paths.{Path}
 use Rattle.cfb_tree.specs.Tree.{Facts, Content, IsOrdered}
 use Rattle.cfb_tree.specs.Directory.{Entry, Siblings, Holds, kind_stream}
@@ -11,7 +11,7 @@ use Rattle.cfb_tree.specs.Objects.{Object, a_stream, a_storage, name_of, object_
 use Rattle.cfb_tree.specs.Changes.{with_changed, changed_below}
 use Rattle.cfb_tree.proofs.NamesRead.{all_append}
 use Rattle.cfb_tree.proofs.OneContent.{siblings_unique, Some_same}
-use Rattle.cfb_siblings.specs.Places.{IsChild, IsNamed, IsOwner, LeadsTo, LeadsBy}
+use Rattle.cfb_siblings.specs.Places.{IsChild, IsEntryNamed, IsOwner, LeadsTo, LeadsBy}
 use Rattle.cfb_siblings.proofs.Parts.{LinksStay, Stays, AllStay}
 use Rattle.cfb_siblings.proofs.Records.{Chosen}
 use Rattle.cfb_siblings.proofs.Lists.{all_parts, all_map}
@@ -22,7 +22,7 @@ use Rattle.cfb_siblings.proofs.Ordering.{IsOrderedObject}
 use Rattle.cfb_siblings.proofs.KeptOrder.{chosen_ordered, changed_ordered}
 
 -- a content with a change of the object at a path in it
-abbrev pub changed_inside : Letters → (Object → Object) → Path → Content → Content
+abbrev pub changed_inside : CaseTable → (Object → Object) → Path → Content → Content
 changed_inside letters change [] c = c
 changed_inside letters change (name ∷ names) c = with_changed letters name (changed_below letters change names) c
 
@@ -55,10 +55,10 @@ as_storage directory Reads id e (a_storage n f i) own (g, children, at, siblings
       holds = inside;
     }
 
-module _ (old : List Entry) (Reads Reads' : Entry → List ℕ → Type 0) (letters : Letters) where
+module _ (old : List Entry) (Reads Reads' : Entry → List ℕ → Type 0) (letters : CaseTable) where
   -- entry `id` keeps its name
   abbrev pub NameStays : List Entry → ℕ → Type 0
-  NameStays new id = (wanted : List ℕ) → IsNamed letters old wanted Equal id → IsNamed letters new wanted Equal id
+  NameStays new id = (wanted : List ℕ) → IsEntryNamed letters old wanted Equal id → IsEntryNamed letters new wanted Equal id
 
   -- the path leads from the siblings `ids`, which hold the content, over the entries `way` alone to entry `at`; and what they hold
   -- with another object there
@@ -108,7 +108,7 @@ module _ (old : List Entry) (Reads Reads' : Entry → List ℕ → Type 0) (lett
 
   -- the chosen entry is still the child of the name where siblings stay, and it is the only one
   child_now : (new : List Entry) (wanted : List ℕ) (ids : List ℕ) (c : Content) (all : List ℕ) (at : ℕ) → Chosen old Reads letters wanted ids c all at
-      → IsNamed letters new wanted Equal at → (parent : ℕ) → (owner : IsOwner new parent) → Siblings new owner.entry.child ids → IsChild letters new parent wanted at
+      → IsEntryNamed letters new wanted Equal at → (parent : ℕ) → (owner : IsOwner new parent) → Siblings new owner.entry.child ids → IsChild letters new parent wanted at
   child_now new wanted ids c all at it named parent owner siblings = record {
     owner = owner;
     front = it.front;
@@ -126,7 +126,7 @@ module _ (old : List Entry) (Reads Reads' : Entry → List ℕ → Type 0) (lett
       (siblings_unique siblings (subst (λ y. Siblings old y.child (child.front ++ next ∷ child.back)) is child.siblings)) holds ordered.0 child.named
 
   only_child : (wanted : List ℕ) (ids : List ℕ) (c : Content) (all : List ℕ) (at : ℕ) → Holds old Reads ids c all → IsOrdered letters c
-      → Chosen old Reads letters wanted ids c all at → IsNamed letters old wanted Equal at → (parent : ℕ) → (owner : IsOwner old parent)
+      → Chosen old Reads letters wanted ids c all at → IsEntryNamed letters old wanted Equal at → (parent : ℕ) → (owner : IsOwner old parent)
       → Siblings old owner.entry.child ids → (other : ℕ) → IsChild letters old parent wanted other → other ≡ at
   only_child wanted ids c all at holds ordered it named parent owner siblings other child =
       chosen_once old Reads letters wanted ids c all other at
@@ -134,7 +134,7 @@ module _ (old : List Entry) (Reads Reads' : Entry → List ℕ → Type 0) (lett
 
   -- one name
   spot_one : (wanted : List ℕ) (ids : List ℕ) (c : Content) (all : List ℕ) (at : ℕ) → Chosen old Reads letters wanted ids c all at
-      → IsNamed letters old wanted Equal at → Holds old Reads ids c all → IsOrdered letters c → Spot ids c all (wanted ∷ []) at
+      → IsEntryNamed letters old wanted Equal at → Holds old Reads ids c all → IsOrdered letters c → Spot ids c all (wanted ∷ []) at
   spot_one wanted ids c all at it named holds ordered = record {
     object = it.object;
     sooner = it.earlier_all;
@@ -157,7 +157,7 @@ module _ (old : List Entry) (Reads Reads' : Entry → List ℕ → Type 0) (lett
 
   -- one name more in front
   spot_more : (wanted : List ℕ) (ids : List ℕ) (c : Content) (all : List ℕ) (p : ℕ) (it : Chosen old Reads letters wanted ids c all p)
-      → IsNamed letters old wanted Equal p → (e : Entry) → slice_get old p ≡ Some e → (e.kind ≡ kind_stream → ⊥) → (so : AsStorage old Reads p e it.object it.own)
+      → IsEntryNamed letters old wanted Equal p → (e : Entry) → slice_get old p ≡ Some e → (e.kind ≡ kind_stream → ⊥) → (so : AsStorage old Reads p e it.object it.own)
       → Holds old Reads ids c all → IsOrdered letters c
       → (next : List ℕ) (names : Path) (at : ℕ) → Spot so.children so.inside it.own (next ∷ names) at → Spot ids c all (wanted ∷ next ∷ names) at
   spot_more wanted ids c all p it named e e_found owns so holds ordered next names at inner = record {

@@ -2,11 +2,11 @@
 use Rattle.std.proofs.Common.{◌≡◌, ◌↔◌, ℕ, false, List, [], ◌∷◌, ◌++◌, refl, sym, ◌∙◌, ap, subst, append_assoc, append-nil}
 use Rattle.std.specs.Prelude.{slice_get, slice_set, Some, None, nat_eq}
 use Rattle.std.specs.List.{IsDistinct}
-use Rattle.cfb_tree.specs.Names.{Letters}
+use Rattle.cfb_tree.specs.Names.{CaseTable}
 use Rattle.cfb_tree.specs.Paths.{Path}
 use Rattle.cfb_tree.specs.Tree.{Content, Tree}
 use Rattle.cfb_tree.specs.Directory.{Entry, Siblings, Holds, no_entry}
-use Rattle.cfb_tree.specs.Objects.{joined_contents, HoldsTree, IsObject, Object}
+use Rattle.cfb_tree.specs.Objects.{joined_contents, EntriesHoldTree, IsObject, Object}
 use Rattle.cfb_tree.specs.Changes.{parent_of, removed, changed, holding, without_child}
 use Rattle.cfb_tree.specs.Entries.{IsBlackAt, IsColored}
 use Rattle.cfb_tree.proofs.OneContent.{Some_same}
@@ -30,7 +30,7 @@ use Rattle.cfb_siblings.proofs.Coloring.{colored_less}
 use Rattle.cfb_siblings.proofs.Leading.{parent_of_path, last_of_path}
 use Rattle.cfb_siblings.proofs.Trees.{HoldsJust, Storing, storing, storing_once}
 
-removed_is : (letters : Letters) (path : Path) (wanted : List ℕ) (tree : Tree)
+removed_is : (letters : CaseTable) (path : Path) (wanted : List ℕ) (tree : Tree)
     → removed letters (path_to path wanted) tree ≡ changed letters (holding (without_child letters wanted)) path tree
 removed_is letters [] wanted tree = ap (λ q. changed letters (holding (without_child letters wanted)) q tree) (parent_of_path [] wanted)
 removed_is letters (name ∷ names) wanted tree =
@@ -42,8 +42,8 @@ outside_one (Child id) p within is apart = subst (λ k. IsApart k within) (sym i
 outside_one (Left id) p within is apart = tt
 outside_one (Right id) p within is apart = tt
 
-module _ (letters : Letters) (Reads : Entry → List ℕ → Type 0) (by_place : ReadsByPlace Reads) (old : List Entry) (tree : Tree) (path : Path) (p : ℕ)
-    (link : Link) (at : ℕ) (wanted : List ℕ) (h : HoldsTree letters Reads old tree) (s : IsStorageAt letters old path p)
+module _ (letters : CaseTable) (Reads : Entry → List ℕ → Type 0) (by_place : ReadsByPlace Reads) (old : List Entry) (tree : Tree) (path : Path) (p : ℕ)
+    (link : Link) (at : ℕ) (wanted : List ℕ) (h : EntriesHoldTree letters Reads old tree) (s : IsStorageAt letters old path p)
     (taken : NameIsTaken letters old p wanted link at) where
   pub st : Storing old Reads Reads letters tree path p h.ids
   st = storing old Reads Reads letters tree h path p s

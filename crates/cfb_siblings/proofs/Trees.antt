@@ -3,14 +3,14 @@ use Rattle.std.proofs.Common.{◌≡◌, ℕ, List, [], ◌∷◌, ◌++◌, ref
 use Rattle.std.specs.Prelude.{slice_get, Some, nat_eq, codes}
 use Rattle.std.specs.List.{IsDistinct}
 use Rattle.std.specs.declared.cmp.Ordering.TheVariants.{Equal}
-use Rattle.cfb_tree.specs.Names.{Letters}
+use Rattle.cfb_tree.specs.Names.{CaseTable}
 use Rattle.cfb_tree.specs.Paths.{Path}
 use Rattle.cfb_tree.specs.Tree.{Facts, Content, Tree, IsOrdered}
 use Rattle.cfb_tree.specs.Directory.{Entry, Siblings, Holds, HasName, kind_root, kind_stream}
-use Rattle.cfb_tree.specs.Objects.{a_storage, name_of, object_at, IsObject, HoldsTree}
+use Rattle.cfb_tree.specs.Objects.{a_storage, name_of, object_at, IsObject, EntriesHoldTree}
 use Rattle.cfb_tree.specs.Changes.{holding, changed}
 use Rattle.cfb_tree.proofs.OneContent.{Some_same}
-use Rattle.cfb_siblings.specs.Places.{IsNamed, IsOwner, LeadsTo, LeadsBy, IsStorageAt}
+use Rattle.cfb_siblings.specs.Places.{IsEntryNamed, IsOwner, LeadsTo, LeadsBy, IsStorageAt}
 use Rattle.cfb_siblings.proofs.Parts.{HasSameFacts, LinksStay, AllStay}
 use Rattle.cfb_siblings.proofs.Lists.{distinct_parts}
 use Rattle.cfb_siblings.proofs.Frames.{name_stays, siblings_links}
@@ -19,11 +19,11 @@ use Rattle.cfb_siblings.proofs.Ordering.{IsOrderedObject}
 use Rattle.cfb_siblings.proofs.Spots.{spot, as_storage}
 
 -- the entries hold the tree, and these are all of it
-pub record HoldsJust (letters : Letters) (Reads : Entry → List ℕ → Type 0) (directory : List Entry) (tree : Tree) (all : List ℕ) : Type 0 where
-  pub holds : HoldsTree letters Reads directory tree
+pub record HoldsJust (letters : CaseTable) (Reads : Entry → List ℕ → Type 0) (directory : List Entry) (tree : Tree) (all : List ℕ) : Type 0 where
+  pub holds : EntriesHoldTree letters Reads directory tree
   pub all_is : 0 ∷ holds.ids ≡ all
 
-module _ (old : List Entry) (Reads Reads' : Entry → List ℕ → Type 0) (letters : Letters) (tree : Tree) where
+module _ (old : List Entry) (Reads Reads' : Entry → List ℕ → Type 0) (letters : CaseTable) (tree : Tree) where
   -- the path leads to storage p, which holds a content; and the tree with another content in it
   pub record Storing (path : Path) (p : ℕ) (ids : List ℕ) : Type 0 where
     pub entry : Entry
@@ -49,7 +49,7 @@ module _ (old : List Entry) (Reads Reads' : Entry → List ℕ → Type 0) (lett
         → AllStay old new Reads Reads' sooner → AllStay old new Reads Reads' further
         → LeadsTo letters new 0 path p × ((way : List ℕ) → LeadsBy letters old 0 path way → LeadsBy letters new 0 path way)
 
-  module _ (h : HoldsTree letters Reads old tree) where
+  module _ (h : EntriesHoldTree letters Reads old tree) where
     root_owns : h.root.kind ≡ kind_stream → ⊥
     root_owns kind = let never : kind_root ≡ kind_stream = sym h.root_kind ∙ kind in omega (arith, never)
 
@@ -96,7 +96,7 @@ module _ (old : List Entry) (Reads Reads' : Entry → List ℕ → Type 0) (lett
         (f, found, left, right)
 
     name_still : (p : ℕ) (owner : IsOwner old p) (new : List Entry) (f : Entry) → slice_get new p ≡ Some f → HasSameFacts owner.entry f
-        → (wanted : List ℕ) → IsNamed letters old wanted Equal p → IsNamed letters new wanted Equal p
+        → (wanted : List ℕ) → IsEntryNamed letters old wanted Equal p → IsEntryNamed letters new wanted Equal p
     name_still p owner new f found same wanted is = record {
       entry = f;
       found = found;

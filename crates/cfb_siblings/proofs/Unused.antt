@@ -2,10 +2,10 @@
 use Rattle.std.proofs.Common.{◌≡◌, ℕ, false, List, [], ◌∷◌, ◌++◌, refl, sym, ◌∙◌, ap, subst, arith, inl, inr}
 use Rattle.std.specs.Prelude.{slice_get, Some, nat_eq, Bool}
 use Rattle.std.specs.List.Sorted.{IsStrictlySortedBy}
-use Rattle.cfb_tree.specs.Names.{Letters}
+use Rattle.cfb_tree.specs.Names.{CaseTable}
 use Rattle.cfb_tree.specs.Tree.{Content, nothing, stream, storage, Tree, IsOrdered}
 use Rattle.cfb_tree.specs.Directory.{Entry, Siblings, none, Holds, kind_unallocated}
-use Rattle.cfb_tree.specs.Objects.{Object, a_stream, a_storage, IsObject, HoldsTree}
+use Rattle.cfb_tree.specs.Objects.{Object, a_stream, a_storage, IsObject, EntriesHoldTree}
 use Rattle.cfb_tree.proofs.NamesRead.{all_append}
 use Rattle.cfb_tree.proofs.OneContent.{Some_same}
 use Rattle.cfb_siblings.specs.Changes.{IsApart, IsUnused, Is}
@@ -37,7 +37,7 @@ held_apart directory Reads n e was free (storage m f i l) ids all (g, id, others
           (held_apart directory Reads n e was free l others rest later),
     )
 
-module _ (letters : Letters) (Reads : Entry → List ℕ → Type 0) (directory : List Entry) (tree : Tree) (h : HoldsTree letters Reads directory tree) where
+module _ (letters : CaseTable) (Reads : Entry → List ℕ → Type 0) (directory : List Entry) (tree : Tree) (h : EntriesHoldTree letters Reads directory tree) where
   -- LAW: an entry that is not in use is none of a tree's
   pub unused_apart : (n : ℕ) → IsUnused directory n → IsApart n (0 ∷ h.ids)
   unused_apart n it = (
@@ -46,7 +46,7 @@ module _ (letters : Letters) (Reads : Entry → List ℕ → Type 0) (directory 
   )
 
   -- LAW: a tree stays where its entries do
-  pub tree_stays : (new : List Entry) (Reads' : Entry → List ℕ → Type 0) → AllStay directory new Reads Reads' (0 ∷ h.ids) → HoldsTree letters Reads' new tree
+  pub tree_stays : (new : List Entry) (Reads' : Entry → List ℕ → Type 0) → AllStay directory new Reads Reads' (0 ∷ h.ids) → EntriesHoldTree letters Reads' new tree
   tree_stays new Reads' stay =
       let root = stay.0 h.root h.root_found in
       record {
@@ -65,7 +65,7 @@ module _ (letters : Letters) (Reads : Entry → List ℕ → Type 0) (directory 
       }
 
   -- LAW: so it does where only one other entry changes
-  pub tree_apart : (new : List Entry) (n : ℕ) → ChangesOnly n directory new → IsApart n (0 ∷ h.ids) → HoldsTree letters Reads new tree
+  pub tree_apart : (new : List Entry) (n : ℕ) → ChangesOnly n directory new → IsApart n (0 ∷ h.ids) → EntriesHoldTree letters Reads new tree
   tree_apart new n only apart = tree_stays new Reads (stay_apart directory new Reads Reads n (0 ∷ h.ids) only (λ e bytes r. r) apart)
 
 -- an entry that was made is an object with nothing inside
@@ -82,7 +82,7 @@ made_object directory Reads n f (a_storage name facts inside) found (kind, named
 )
 
 -- and is in order
-pub made_ordered : (letters : Letters) (Reads : Entry → List ℕ → Type 0) (f : Entry) (object : Object) → Is Reads f object → IsOrderedObject letters object
+pub made_ordered : (letters : CaseTable) (Reads : Entry → List ℕ → Type 0) (f : Entry) (object : Object) → Is Reads f object → IsOrderedObject letters object
 unfolding IsStrictlySortedBy
 made_ordered letters Reads f (a_stream name bits bytes) is = tt
 made_ordered letters Reads f (a_storage name facts inside) (kind, named, has, child, empty) = subst (IsOrdered letters) (sym empty) (tt, tt)
@@ -105,8 +105,8 @@ same_stay old new Reads (id ∷ ids) same = (
 )
 
 -- LAW: a tree stays where entries are appended
-pub tree_appended : (letters : Letters) (Reads : Entry → List ℕ → Type 0) (old more : List Entry) (tree : Tree) → HoldsTree letters Reads old tree
-    → HoldsTree letters Reads (old ++ more) tree
+pub tree_appended : (letters : CaseTable) (Reads : Entry → List ℕ → Type 0) (old more : List Entry) (tree : Tree) → EntriesHoldTree letters Reads old tree
+    → EntriesHoldTree letters Reads (old ++ more) tree
 tree_appended letters Reads old more tree h = tree_stays letters Reads old tree h (old ++ more) Reads
     (same_stay old (old ++ more) Reads (0 ∷ h.ids) (λ k e found. append_keeps old more k e found))
 
@@ -115,8 +115,8 @@ pub read_by_place : (reads : ℕ → ℕ → List ℕ → Bool) → ReadsByPlace
 read_by_place reads e f bytes start size r = rw (start, size) r
 
 -- LAW: a tree is one with other bytes
-pub tree_reads : (letters : Letters) (Reads Reads' : Entry → List ℕ → Type 0) (directory : List Entry) (tree : Tree)
-    → ((e : Entry) (bytes : List ℕ) → Reads e bytes → Reads' e bytes) → HoldsTree letters Reads directory tree → HoldsTree letters Reads' directory tree
+pub tree_reads : (letters : CaseTable) (Reads Reads' : Entry → List ℕ → Type 0) (directory : List Entry) (tree : Tree)
+    → ((e : Entry) (bytes : List ℕ) → Reads e bytes → Reads' e bytes) → EntriesHoldTree letters Reads directory tree → EntriesHoldTree letters Reads' directory tree
 tree_reads letters Reads Reads' directory tree reads h = tree_stays letters Reads directory tree h directory Reads' (all_read (0 ∷ h.ids))
   where
     all_read : (ids : List ℕ) → AllStay directory directory Reads Reads' ids

@@ -1,12 +1,12 @@
 -- What entries hold after one was linked, or taken out.
 use Rattle.std.specs.Prelude.{◌≡◌, ℕ, ◌≤◌, false, List, ◌∷◌, nat_eq, slice_get, slice_set, Some, IfSome, ◌↔◌}
 use Rattle.std.specs.List.{AllByRecursion}
-use Rattle.cfb_tree.specs.Names.{Letters}
+use Rattle.cfb_tree.specs.Names.{CaseTable}
 use Rattle.cfb_tree.specs.Paths.{Path}
 use Rattle.cfb_tree.specs.Tree.{Tree, nothing}
 use Rattle.cfb_tree.specs.Directory.{Entry, HasName, no_entry, greatest_entry, kind_unallocated, kind_storage, kind_stream, black}
 use Rattle.cfb_tree.specs.Entries.{IsBlackAt, IsColored}
-use Rattle.cfb_tree.specs.Objects.{Object, a_stream, a_storage, IsObject, HoldsTree}
+use Rattle.cfb_tree.specs.Objects.{Object, a_stream, a_storage, IsObject, EntriesHoldTree}
 use Rattle.cfb_tree.specs.Changes.{parent_of, removed}
 use Rattle.cfb_siblings.specs.declared.removal.Removal.{Removal}
 use Rattle.cfb_siblings.specs.Links.{holder, taken_out}
@@ -42,18 +42,18 @@ abbrev pub AreColored : List Entry → List ℕ → Type 0
 AreColored directory ids = IsBlackAt directory 0 × AllByRecursion (IsColored directory) ids
 
 -- the entries hold the tree, which is made of the root, of `ids` and of `id`, to which the path leads; colours stay right
-pub record HoldsOneMore (letters : Letters) (Reads : Entry → List ℕ → Type 0) (old new : List Entry) (tree : Tree) (ids : List ℕ)
+pub record HoldsOneMore (letters : CaseTable) (Reads : Entry → List ℕ → Type 0) (old new : List Entry) (tree : Tree) (ids : List ℕ)
     (path : Path) (id : ℕ) : Type 0 where
-  pub holds : HoldsTree letters Reads new tree
+  pub holds : EntriesHoldTree letters Reads new tree
   pub all_are : (k : ℕ) → IsApart k (0 ∷ holds.ids) ↔ (nat_eq k id ≡ false) × IsApart k (0 ∷ ids)
   pub at_path : LeadsTo letters new 0 path id
   pub colors : AreColored old ids → AreColored new holds.ids
 
 -- the entries hold the tree, which is made of the root and of `ids` without `id`, to which the path led, and those inside of it,
 -- `own`; the way to the storage above goes over the same entries; colours stay right
-pub record HoldsOneLess (letters : Letters) (Reads : Entry → List ℕ → Type 0) (old new : List Entry) (tree : Tree) (ids : List ℕ)
+pub record HoldsOneLess (letters : CaseTable) (Reads : Entry → List ℕ → Type 0) (old new : List Entry) (tree : Tree) (ids : List ℕ)
     (path : Path) (id : ℕ) (own : List ℕ) : Type 0 where
-  pub holds : HoldsTree letters Reads new tree
+  pub holds : EntriesHoldTree letters Reads new tree
   pub all_are : (k : ℕ) → IsApart k (0 ∷ ids) ↔ (nat_eq k id ≡ false) × IsApart k own × IsApart k (0 ∷ holds.ids)
   pub gone : IsApart id (0 ∷ holds.ids)
   pub ways : (way : List ℕ) → LeadsBy letters old 0 (parent_of path) way → LeadsBy letters new 0 (parent_of path) way
@@ -61,7 +61,7 @@ pub record HoldsOneLess (letters : Letters) (Reads : Entry → List ℕ → Type
 
 -- the removal takes entry `id` out, of which the object is at the path: whatever stands in its place then, the entries hold the
 -- tree without the object and what is in it ([MS-CFB] 2.6.4)
-pub record TakesOut (letters : Letters) (Reads : Entry → List ℕ → Type 0) (directory : List Entry) (tree : Tree) (ids : List ℕ)
+pub record TakesOut (letters : CaseTable) (Reads : Entry → List ℕ → Type 0) (directory : List Entry) (tree : Tree) (ids : List ℕ)
     (path : Path) (id : ℕ) (removal : Removal) : Type 0 where
   pub object : Object
   pub own : List ℕ
@@ -94,6 +94,6 @@ KeepBytes Reads Reads' directory id ids = AllByRecursion (λ k. nat_eq id k ≡ 
     → (e : Entry) (bytes : List ℕ) → slice_get directory k ≡ Some e → Reads e bytes → Reads' e bytes) ids
 
 -- the entries hold the tree, which is made of the root and of `ids`
-pub record HoldsOn (letters : Letters) (Reads : Entry → List ℕ → Type 0) (directory : List Entry) (tree : Tree) (ids : List ℕ) : Type 0 where
-  pub holds : HoldsTree letters Reads directory tree
+pub record HoldsOn (letters : CaseTable) (Reads : Entry → List ℕ → Type 0) (directory : List Entry) (tree : Tree) (ids : List ℕ) : Type 0 where
+  pub holds : EntriesHoldTree letters Reads directory tree
   pub ids_are : holds.ids ≡ ids

@@ -4,7 +4,7 @@ use Rattle.std.specs.Borrow.{Bor}
 use Rattle.std.specs.List.{AllByRecursion}
 use Rattle.std.specs.declared.cmp.Ordering.{Ordering}
 use Rattle.std.specs.declared.cmp.Ordering.TheVariants.{Less, Equal, Greater}
-use Rattle.cfb_tree.specs.Names.{Letters, name_cmp}
+use Rattle.cfb_tree.specs.Names.{CaseTable, name_cmp}
 use Rattle.cfb_tree.specs.Paths.{Path}
 use Rattle.cfb_tree.specs.Tree.{Tree}
 use Rattle.cfb_tree.specs.Directory.{Entry, Siblings, HasName, no_entry, greatest_entry, kind_stream}
@@ -16,7 +16,7 @@ use Rattle.cfb_siblings.specs.declared.places.Place.{Place}
 use Rattle.cfb_siblings.specs.declared.places.Place.TheVariants.{Taken, Free}
 
 -- entry `id` has a name, and the wanted one stands in this order to it ([MS-CFB] 2.6.4)
-pub record IsNamed (letters : Letters) (directory : List Entry) (wanted : List ℕ) (order : Ordering) (id : ℕ) : Type 0 where
+pub record IsEntryNamed (letters : CaseTable) (directory : List Entry) (wanted : List ℕ) (order : Ordering) (id : ℕ) : Type 0 where
   pub entry : Entry
   pub found : slice_get directory id ≡ Some entry
   pub name : List ℕ
@@ -34,27 +34,27 @@ pub record IsOwner (directory : List Entry) (id : ℕ) : Type 0 where
   pub holds : entry.kind ≡ kind_stream → ⊥
 
 -- entry `id` is the child of this name of entry `parent` ([MS-CFB] 2.6.4)
-pub record IsChild (letters : Letters) (directory : List Entry) (parent : ℕ) (wanted : List ℕ) (id : ℕ) : Type 0 where
+pub record IsChild (letters : CaseTable) (directory : List Entry) (parent : ℕ) (wanted : List ℕ) (id : ℕ) : Type 0 where
   pub owner : IsOwner directory parent
   pub front : List ℕ
   pub back : List ℕ
   pub siblings : Siblings directory owner.entry.child (front ++ id ∷ back)
-  pub named : IsNamed letters directory wanted Equal id
+  pub named : IsEntryNamed letters directory wanted Equal id
 
 -- the path leads from entry `start` to entry `id` ([MS-CFB] 2.6.4)
-abbrev pub LeadsTo : Letters → List Entry → ℕ → Path → ℕ → Type 0
+abbrev pub LeadsTo : CaseTable → List Entry → ℕ → Path → ℕ → Type 0
 LeadsTo letters directory start [] id = id ≡ start
 LeadsTo letters directory start (name ∷ names) id =
     (next : ℕ) × IsChild letters directory start name next × LeadsTo letters directory next names id
 
 -- the path leads from entry `start` along these entries ([MS-CFB] 2.6.4)
-abbrev pub LeadsBy : Letters → List Entry → ℕ → Path → List ℕ → Type 0
+abbrev pub LeadsBy : CaseTable → List Entry → ℕ → Path → List ℕ → Type 0
 LeadsBy letters directory start [] ids = ids ≡ []
 LeadsBy letters directory start (name ∷ names) ids =
     (next : ℕ) × (later : List ℕ) × (ids ≡ next ∷ later) × IsChild letters directory start name next × LeadsBy letters directory next names later
 
 -- the path leads from the root to entry `id`, which is a storage ([MS-CFB] 2.6.2)
-pub record IsStorageAt (letters : Letters) (directory : List Entry) (path : Path) (id : ℕ) : Type 0 where
+pub record IsStorageAt (letters : CaseTable) (directory : List Entry) (path : Path) (id : ℕ) : Type 0 where
   pub leads : LeadsTo letters directory 0 path id
   pub owner : IsOwner directory id
 
@@ -74,22 +74,22 @@ pub data Hangs (directory : List Entry) (owner root : ℕ) : Link → ℕ → Li
 
 -- a child of this name of entry `parent` is to hang at the link, which leads nowhere: of the siblings some come before the name
 -- and the others after it ([MS-CFB] 2.6.4)
-pub record IsFree (letters : Letters) (directory : List Entry) (parent : ℕ) (wanted : List ℕ) (link : Link) : Type 0 where
+pub record IsFree (letters : CaseTable) (directory : List Entry) (parent : ℕ) (wanted : List ℕ) (link : Link) : Type 0 where
   pub owner : IsOwner directory parent
   pub front : List ℕ
   pub back : List ℕ
   pub hangs : Hangs directory parent owner.entry.child link no_entry front back
-  pub before : AllByRecursion (IsNamed letters directory wanted Greater) front
-  pub after : AllByRecursion (IsNamed letters directory wanted Less) back
+  pub before : AllByRecursion (IsEntryNamed letters directory wanted Greater) front
+  pub after : AllByRecursion (IsEntryNamed letters directory wanted Less) back
 
 -- the link leads to entry `id`, the child of this name of entry `parent` ([MS-CFB] 2.6.4)
-pub record NameIsTaken (letters : Letters) (directory : List Entry) (parent : ℕ) (wanted : List ℕ) (link : Link) (id : ℕ) : Type 0 where
+pub record NameIsTaken (letters : CaseTable) (directory : List Entry) (parent : ℕ) (wanted : List ℕ) (link : Link) (id : ℕ) : Type 0 where
   pub owner : IsOwner directory parent
   pub front : List ℕ
   pub back : List ℕ
   pub hangs : Hangs directory parent owner.entry.child link id front back
   pub fits : id ≤ greatest_entry
-  pub named : IsNamed letters directory wanted Equal id
+  pub named : IsEntryNamed letters directory wanted Equal id
 
 -- the path of a child
 abbrev pub path_to : Path → List ℕ → Path
@@ -97,7 +97,7 @@ path_to path name = path ++ name ∷ []
 
 -- the place of a name among the children of the storage at a path: where it is taken, the tree has an object there, which is the
 -- entry; where it is free, the tree has none ([MS-CFB] 2.6.4)
-abbrev pub IsPlace : (Entry → List ℕ → Type 0) → Letters → List Entry → Tree → Path → ℕ → List ℕ → Place → Type 0
+abbrev pub IsPlace : (Entry → List ℕ → Type 0) → CaseTable → List Entry → Tree → Path → ℕ → List ℕ → Place → Type 0
 IsPlace Reads letters directory tree path parent name (Taken link id) =
     NameIsTaken letters directory parent name link id × LeadsTo letters directory 0 (path_to path name) id
     × (object : Object) × (object_at letters tree (path_to path name) ≡ Some object) × (own : List ℕ) × IsObject directory Reads id object own
@@ -109,7 +109,7 @@ abbrev pub path_of : List (Bor (List ℕ)) → Path
 path_of names = map (λ name. chars name.now) names
 
 -- the entry to which a path leads is the object there; the root's entry is that of the root ([MS-CFB] 2.6.2)
-pub record IsEntryAt (Reads : Entry → List ℕ → Type 0) (letters : Letters) (directory : List Entry) (tree : Tree) (path : Path) (id : ℕ) : Type 0 where
+pub record IsEntryAt (Reads : Entry → List ℕ → Type 0) (letters : CaseTable) (directory : List Entry) (tree : Tree) (path : Path) (id : ℕ) : Type 0 where
   pub leads : LeadsTo letters directory 0 path id
   pub object : Object
   pub at_path : object_at letters tree path ≡ Some object

@@ -1,10 +1,10 @@
 -- Siblings that are turned: the lower one takes the place of the upper one, and the entries hold what they held ([MS-CFB] 2.6.4).
 use Rattle.std.specs.Prelude.{◌≡◌, ◌≢◌, ℕ, ◌≤◌, Bool, List, slice_get, Some}
-use Rattle.cfb_tree.specs.Names.{Letters}
+use Rattle.cfb_tree.specs.Names.{CaseTable}
 use Rattle.cfb_tree.specs.Paths.{Path}
 use Rattle.cfb_tree.specs.Tree.{Tree}
 use Rattle.cfb_tree.specs.Directory.{Entry, no_entry, greatest_entry}
-use Rattle.cfb_tree.specs.Objects.{Object, IsObject, HoldsTree}
+use Rattle.cfb_tree.specs.Objects.{Object, IsObject, EntriesHoldTree}
 use Rattle.cfb_siblings.specs.declared.links.Link.{Link}
 use Rattle.cfb_siblings.specs.declared.links.Link.TheVariants.{Left, Right}
 use Rattle.cfb_siblings.specs.declared.rotation.Rotation.{Rotation}
@@ -38,12 +38,12 @@ pub data IsRotation (directory : List Entry) (link : Link) (upper : ℕ) : Rotat
       } → IsRotation directory link upper it
 
 -- of each tree that the entries hold with a storage of this number: the link leads to entry `id`, a child of it
-abbrev pub LeadsIn : Letters → List Entry → ℕ → Link → ℕ → Type 0
+abbrev pub LeadsIn : CaseTable → List Entry → ℕ → Link → ℕ → Type 0
 LeadsIn letters directory parent link id = (reads : ℕ → ℕ → List ℕ → Bool) (tree : Tree) (path : Path)
-    → HoldsTree letters (ReadBy reads) directory tree → IsStorageAt letters directory path parent → IsReached directory parent link id
+    → EntriesHoldTree letters (ReadBy reads) directory tree → IsStorageAt letters directory path parent → IsReached directory parent link id
 
 -- a rotation of children of this storage, whose links are there
-pub record TurnsIn (letters : Letters) (directory : List Entry) (parent : ℕ) (it : Rotation) : Type 0 where
+pub record TurnsIn (letters : CaseTable) (directory : List Entry) (parent : ℕ) (it : Rotation) : Type 0 where
   pub upper : ℕ
   pub rotation : IsRotation directory it.raised.link upper it
   pub there : HasEntry directory (holder it.raised.link)
@@ -56,7 +56,7 @@ rotated it entries =
 
 -- the entries hold the same tree of the same entries still, where siblings of the storage at the path were linked otherwise: the way
 -- to it goes over the same entries, its children are the same objects with the same entries inside, and colours stay right
-pub record HoldsStill (letters : Letters) (Reads : Entry → List ℕ → Type 0) (old new : List Entry) (tree : Tree) (ids : List ℕ)
+pub record HoldsStill (letters : CaseTable) (Reads : Entry → List ℕ → Type 0) (old new : List Entry) (tree : Tree) (ids : List ℕ)
     (path : Path) (parent : ℕ) : Type 0 where
   pub holds : HoldsOn letters Reads new tree ids
   pub storage : IsStorageAt letters new path parent
@@ -68,7 +68,7 @@ pub record HoldsStill (letters : Letters) (Reads : Entry → List ℕ → Type 0
 
 -- what a rotation of siblings of the storage at the path leaves: its links can be set, the entries hold the tree still, and the link
 -- of the raised one leads to entry `upper`
-pub record Turns (letters : Letters) (Reads : Entry → List ℕ → Type 0) (directory : List Entry) (tree : Tree) (ids : List ℕ)
+pub record Turns (letters : CaseTable) (Reads : Entry → List ℕ → Type 0) (directory : List Entry) (tree : Tree) (ids : List ℕ)
     (path : Path) (parent upper : ℕ) (it : Rotation) : Type 0 where
   pub inner : HasEntry directory (holder it.inner.link)
   pub lowered : HasEntry directory (holder it.lowered.link)

@@ -2,8 +2,8 @@
 ghost use Rattle.cfb_siblings.specs.Places.{path_of, IsEntryAt, IsOwner};
 ghost use Rattle.cfb_siblings.specs.Reading.{ReadBy};
 ghost use Rattle.cfb_tree.specs.EntryViews.{entry_in};
-ghost use Rattle.cfb_tree.specs.LetterViews.{letters_of};
-ghost use Rattle.cfb_tree.specs.Objects.{object_at, HoldsTree};
+ghost use Rattle.cfb_tree.specs.CaseTableViews.{case_table_of};
+ghost use Rattle.cfb_tree.specs.Objects.{object_at, EntriesHoldTree};
 ghost use Rattle.cfb_tree.specs.Tree.{Tree};
 ghost use Rattle.std.specs.Prelude.{map, Bool, IsTrue, List, MatchOption, None, ℕ, ◌≡◌, ◌↔◌};
 
@@ -28,10 +28,10 @@ fn is_owner(entries: &[DirEntry], id: u32) -> bool
 /// each name at most as many steps as there are entries.
 pub fn find_entry(letters: &CaseMapper, entries: &[DirEntry], names: &[&str]) -> Option<u32>
     ensures { (reads : ℕ → ℕ → List ℕ → Bool) (tree : Tree)
-        → HoldsTree (letters_of letters.now) (ReadBy reads) (map entry_in entries.now) tree
+        → EntriesHoldTree (case_table_of letters.now) (ReadBy reads) (map entry_in entries.now) tree
         → MatchOption result
-        (object_at (letters_of letters.now) tree (path_of names.now) ≡ None)
-        (λ id. IsEntryAt (ReadBy reads) (letters_of letters.now) (map entry_in entries.now) tree
+        (object_at (case_table_of letters.now) tree (path_of names.now) ≡ None)
+        (λ id. IsEntryAt (ReadBy reads) (case_table_of letters.now) (map entry_in entries.now) tree
         (path_of names.now) id) }
 {
     let mut id = 0;

@@ -2,8 +2,8 @@
 ghost use Rattle.cfb_siblings.specs.Places.{IsPlace, IsStorageAt};
 ghost use Rattle.cfb_siblings.specs.Reading.{ReadBy};
 ghost use Rattle.cfb_tree.specs.EntryViews.{entry_in};
-ghost use Rattle.cfb_tree.specs.LetterViews.{letters_of};
-ghost use Rattle.cfb_tree.specs.Objects.{HoldsTree};
+ghost use Rattle.cfb_tree.specs.CaseTableViews.{case_table_of};
+ghost use Rattle.cfb_tree.specs.Objects.{EntriesHoldTree};
 ghost use Rattle.cfb_tree.specs.Paths.{Path};
 ghost use Rattle.cfb_tree.specs.Tree.{Tree};
 ghost use Rattle.std.specs.Prelude.{chars, map, Bool, List, MatchOption, ℕ};
@@ -32,9 +32,9 @@ pub fn find_place(
     name: &str,
 ) -> Option<Place>
     ensures { (reads : ℕ → ℕ → List ℕ → Bool) (tree : Tree) (path : Path)
-        → HoldsTree (letters_of letters.now) (ReadBy reads) (map entry_in entries.now) tree
-        → IsStorageAt (letters_of letters.now) (map entry_in entries.now) path parent
-        → MatchOption result ⊥ (λ place. IsPlace (ReadBy reads) (letters_of letters.now)
+        → EntriesHoldTree (case_table_of letters.now) (ReadBy reads) (map entry_in entries.now) tree
+        → IsStorageAt (case_table_of letters.now) (map entry_in entries.now) path parent
+        → MatchOption result ⊥ (λ place. IsPlace (ReadBy reads) (case_table_of letters.now)
         (map entry_in entries.now) tree path parent (chars name.now) place) }
 {
     let Some(storage) = entries.get(parent as usize) else {

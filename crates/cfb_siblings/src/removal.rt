@@ -5,8 +5,8 @@ ghost use Rattle.cfb_siblings.specs.Reading.{ReadBy};
 ghost use Rattle.cfb_siblings.specs.declared.links.Link.TheVariants.{Right};
 ghost use Rattle.cfb_tree.specs.Directory.{no_entry, Siblings};
 ghost use Rattle.cfb_tree.specs.EntryViews.{entry_in};
-ghost use Rattle.cfb_tree.specs.Names.{Letters};
-ghost use Rattle.cfb_tree.specs.Objects.{HoldsTree};
+ghost use Rattle.cfb_tree.specs.Names.{CaseTable};
+ghost use Rattle.cfb_tree.specs.Objects.{EntriesHoldTree};
 ghost use Rattle.cfb_tree.specs.Paths.{Path};
 ghost use Rattle.cfb_tree.specs.Tree.{Tree};
 ghost use Rattle.std.specs.List.{IsDistinct};
@@ -48,9 +48,9 @@ fn last_sibling(entries: &[DirEntry], first: u32) -> Option<u32>
 /// were set, the entries hold the tree without the entry's object and what is in it, whatever stands in its place. It takes
 /// at most as many steps as there are entries, and no memory. `None` comes only where the entries hold no tree with this child.
 pub fn plan_removal(entries: &[DirEntry], link: Link, id: u32) -> Option<Removal>
-    ensures { (reads : ℕ → ℕ → List ℕ → Bool) (letters : Letters) (tree : Tree) (path : Path)
+    ensures { (reads : ℕ → ℕ → List ℕ → Bool) (letters : CaseTable) (tree : Tree) (path : Path)
         (parent : ℕ) (name : List ℕ)
-        → (h : HoldsTree letters (ReadBy reads) (map entry_in entries.now) tree)
+        → (h : EntriesHoldTree letters (ReadBy reads) (map entry_in entries.now) tree)
         → IsStorageAt letters (map entry_in entries.now) path parent
         → NameIsTaken letters (map entry_in entries.now) parent name link id
         → MatchOption result ⊥ (λ removal. TakesOut letters (ReadBy reads)

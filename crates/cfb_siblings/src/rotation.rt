@@ -3,7 +3,7 @@ ghost use Rattle.cfb_siblings.specs.Links.{holder};
 ghost use Rattle.cfb_siblings.specs.Places.{HasEntry};
 ghost use Rattle.cfb_siblings.specs.Rotations.{IsRotation, LeadsIn, TurnsIn};
 ghost use Rattle.cfb_tree.specs.EntryViews.{entry_in};
-ghost use Rattle.cfb_tree.specs.LetterViews.{letters_of};
+ghost use Rattle.cfb_tree.specs.CaseTableViews.{case_table_of};
 ghost use Rattle.std.specs.Prelude.{map, IfSome};
 
 use crate::links::{Link, NewLink};
@@ -99,7 +99,7 @@ fn link_to(
     id: u32,
 ) -> Option<Link>
     ensures { IfSome result (λ link. HasEntry (map entry_in entries.now) (holder link)
-        × LeadsIn (letters_of letters.now) (map entry_in entries.now) parent link id) }
+        × LeadsIn (case_table_of letters.now) (map entry_in entries.now) parent link id) }
 {
     let Some(storage) = entries.get(parent as usize) else {
         return None;
@@ -144,7 +144,8 @@ pub fn plan_rise(
     link: Link,
     id: u32,
 ) -> Option<Rotation>
-    ensures { IfSome result (TurnsIn (letters_of letters.now) (map entry_in entries.now) parent) }
+    ensures { IfSome result
+        (TurnsIn (case_table_of letters.now) (map entry_in entries.now) parent) }
 {
     if let Link::Child(_) = link {
         return None;

@@ -7,12 +7,12 @@ use Rattle.cfb_sectors.proofs.OneChain.{chain_unique}
 use Rattle.cfb_tree.specs.Directory.{kind_stream, Entry}
 use Rattle.cfb_tree.proofs.OneContent.{Some_same}
 use Rattle.cfb_soundness.specs.Marks.{CanTake}
-use Rattle.cfb_soundness.specs.Uses.{EntriesHave, EntryHas, Tables}
+use Rattle.cfb_soundness.specs.Uses.{EntriesHave, EntryHas, SectorTables}
 use Rattle.cfb_soundness.specs.Views.{marks_of, CanTakeBoth, TakesBoth}
 use Rattle.cfb_soundness.specs.declared.streams.Taken.{Taken}
 use Rattle.cfb_soundness.proofs.Taking.{can_take_front, can_take_rest, takes_none, takes_then}
 
-module _ (t : Tables) where
+module _ (t : SectorTables) where
   entry_unique : (id : ℕ) (s m s' m' : List ℕ) → EntryHas t id s m → EntryHas t id s' m' → (s ≡ s') × (m ≡ m')
   entry_unique id s m s' m' h k' =
       let same : k'.entry ≡ h.entry = Some_same (sym k'.found ∙ h.found) in

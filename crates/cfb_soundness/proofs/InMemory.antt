@@ -9,17 +9,17 @@ use Rattle.cfb_chains.specs.LinkViews.{links_version}
 use Rattle.cfb_sectors.specs.Held.{count_of}
 use Rattle.cfb_sectors.specs.Sectors.{fat_in, joined, sectors_in}
 use Rattle.cfb_fat.specs.Tables.{bytes_of, difat_sectors_of, fat_of, fat_sectors_of, sectors_of, version_of}
-use Rattle.cfb_tree.specs.Names.{Letters}
+use Rattle.cfb_tree.specs.Names.{CaseTable}
 use Rattle.cfb_tree.specs.Tree.{Tree}
 use Rattle.cfb_tree.specs.Directory.{entries_of}
 use Rattle.cfb_tree.specs.Entries.{HasSize}
 use Rattle.cfb_directory.specs.Views.{directory_ids, entries_held}
 use Rattle.cfb_mini.specs.Views.{allocator_of, directory_of, mini_fat_ids, mini_fat_of}
 use Rattle.cfb_mini.specs.declared.mini_allocator.MiniAllocator.{MiniAllocator}
-use Rattle.cfb_meaning.specs.Means.{directory, Layout, MeansBy}
-use Rattle.cfb_meaning.specs.Sound.{IsSound}
+use Rattle.cfb_spec.specs.Means.{directory, Layout, BytesMeanTreeBy}
+use Rattle.cfb_spec.specs.Sound.{IsSoundContainer}
 use Rattle.cfb_soundness.specs.Entries.{AreTreeEntries}
-use Rattle.cfb_soundness.specs.Marks.{CanTake, Takes}
+use Rattle.cfb_soundness.specs.Marks.{CanTake, MarksEachOnce}
 use Rattle.cfb_soundness.specs.Uses.{AreInUse, EntriesHave}
 use Rattle.cfb_soundness.specs.Views.{marks_of, table_sectors, tables_in, CanTakeBoth, LiesSo, TakesBoth}
 use Rattle.cfb_soundness.specs.declared.streams.Taken.{Taken}
@@ -36,9 +36,9 @@ pub if_ok_both : (r : Result Bool Error) (P Q R : Bool → Type 0) → ((b : Boo
 if_ok_both (Ok b) P Q R so p q = so b p q
 if_ok_both (Err e) P Q R so p q = p
 
-module _ {F : Type 0} {g : Ghosts F} (file : MiniAllocator F g) (file_len : ℕ) (letters : Letters) (l : Layout) (tree : Tree)
+module _ {F : Type 0} {g : Ghosts F} (file : MiniAllocator F g) (file_len : ℕ) (letters : CaseTable) (l : Layout) (tree : Tree)
     (so : LiesSo file l) (len : file_len ≡ length (bytes_of (allocator_of file)))
-    (m : MeansBy l HasSize letters (bytes_of (allocator_of file)) tree) where
+    (m : BytesMeanTreeBy l HasSize letters (bytes_of (allocator_of file)) tree) where
   abbrev bytes : List ℕ
   bytes = bytes_of (allocator_of file)
 
@@ -79,10 +79,10 @@ module _ {F : Type 0} {g : Ghosts F} (file : MiniAllocator F g) (file_len : ℕ)
   abbrev pub IsJudgedSo : Type 0
   IsJudgedSo = Judged (tables_in file file_len) count (fat_sectors_of (allocator_of file)) (difat_sectors_of (allocator_of file)) (table_sectors file) l.entries
 
-  pub judged_so : IsSound letters bytes → IsJudgedSo
+  pub judged_so : IsSoundContainer letters bytes → IsJudgedSo
   judged_so sound = moved _ _ _ _ _ _ _ _ _ _ l.entries l.entries tables_are count_is so.fat_sectors so.difat_sectors all_tables refl (sound_is_judged bytes l letters tree HasSize m sound)
 
-  sound_so : IsJudgedSo → IsSound letters bytes
+  sound_so : IsJudgedSo → IsSoundContainer letters bytes
   sound_so j = sound_from_judged bytes l letters tree HasSize m
       (moved _ _ _ _ _ _ _ _ _ _ l.entries l.entries (sym tables_are) (sym count_is) (sym so.fat_sectors) (sym so.difat_sectors) (sym all_tables) refl j)
 
@@ -91,11 +91,11 @@ module _ {F : Type 0} {g : Ghosts F} (file : MiniAllocator F g) (file_len : ℕ)
   ids_are ids all = subst (λ d. AreTreeEntries d ids) (sym entries_are) all l.root m.children l.entries tree.content m.laid_out.root_found m.siblings m.holds m.once.1
 
   module _ (start : List Bool) (taken : Taken) (ids : List ℕ) (starts : start ≡ replicate count false) (all : AreTreeEntries (entries_held (directory_of file)) ids)
-      (minis_start : marks_of taken.minis ≡ replicate (length (mini_fat_of file)) false) (tables : Takes (table_sectors file) start (marks_of taken.sectors)) where
+      (minis_start : marks_of taken.minis ≡ replicate (length (mini_fat_of file)) false) (tables : MarksEachOnce (table_sectors file) start (marks_of taken.sectors)) where
     -- where all took what they use
     pub sound_where_taken : count ≤ length (fat_of (allocator_of file)) → AreInUse (fat_of (allocator_of file)) (fat_sectors_of (allocator_of file))
         → AreInUse (fat_of (allocator_of file)) (difat_sectors_of (allocator_of file)) → (sectors minis : List ℕ) (end : Taken)
-        → EntriesHave (tables_in file file_len) ids sectors minis → TakesBoth sectors minis taken end → IsSound letters bytes
+        → EntriesHave (tables_in file file_len) ids sectors minis → TakesBoth sectors minis taken end → IsSoundContainer letters bytes
     sound_where_taken covers fat_used difat_used sectors minis end have took = sound_so (record {
       covers = covers;
       fat_used = fat_used;
@@ -110,7 +110,7 @@ module _ {F : Type 0} {g : Ghosts F} (file : MiniAllocator F g) (file_len : ℕ)
     })
 
     -- where some can't
-    pub unsound_where_refused : ((sectors minis : List ℕ) → EntriesHave (tables_in file file_len) ids sectors minis → CanTakeBoth sectors minis taken → ⊥) → IsSound letters bytes → ⊥
+    pub unsound_where_refused : ((sectors minis : List ℕ) → EntriesHave (tables_in file file_len) ids sectors minis → CanTakeBoth sectors minis taken → ⊥) → IsSoundContainer letters bytes → ⊥
     unsound_where_refused never sound =
         let j = judged_so sound in
         never j.sectors j.minis (subst (λ xs. EntriesHave (tables_in file file_len) xs j.sectors j.minis) (sym (ids_are ids all)) j.have)
@@ -120,7 +120,7 @@ module _ {F : Type 0} {g : Ghosts F} (file : MiniAllocator F g) (file_len : ℕ)
         })
 
   -- where the tables can't
-  pub unsound_tables : (start : List Bool) → start ≡ replicate count false → (CanTake (table_sectors file) start → ⊥) → IsSound letters bytes → ⊥
+  pub unsound_tables : (start : List Bool) → start ≡ replicate count false → (CanTake (table_sectors file) start → ⊥) → IsSoundContainer letters bytes → ⊥
   unsound_tables start starts never sound =
       let j = judged_so sound in
       never (can_take_front (table_sectors file) j.sectors start (subst (CanTake (table_sectors file ++ j.sectors)) (sym starts) j.can))

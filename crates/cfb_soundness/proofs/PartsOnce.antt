@@ -2,8 +2,8 @@
 use Rattle.std.proofs.Common.{◌≡◌, ◌≢◌, ℕ, ◌+◌, ◌≤◌, Bool, true, false, List, [], ◌∷◌, ◌++◌, refl, ap, sym, ◌∙◌, arith}
 use Rattle.std.specs.Prelude.{nat_eq, if◌then◌else◌}
 use Rattle.std.specs.List.{AllByRecursion}
-use Rattle.cfb_meaning.specs.Sound.{in_file, in_mini_stream, AreApart, Part}
-use Rattle.cfb_owners.proofs.KeysOfParts.{minis_among, sectors_among}
+use Rattle.cfb_spec.specs.Sound.{in_file, in_mini_stream, AreApart, Part}
+use Rattle.cfb_ownership.proofs.KeysOfParts.{minis_among, sectors_among}
 use Rattle.cfb_soundness.specs.Marks.{times}
 
 pub sectors_append : (xs ys : List Part) → sectors_among (xs ++ ys) ≡ sectors_among xs ++ sectors_among ys

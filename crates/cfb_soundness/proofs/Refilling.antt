@@ -3,7 +3,7 @@ use Rattle.std.proofs.Common.{◌≡◌, ℕ, List, [], ◌∷◌, refl, ap, sym
 use Rattle.std.specs.Prelude.{slice_get, Some}
 use Rattle.std.specs.List.{AllByRecursion}
 use Rattle.std.specs.List.Sorted.{IsStrictlySortedBy}
-use Rattle.cfb_tree.specs.Names.{name_cmp, Letters}
+use Rattle.cfb_tree.specs.Names.{name_cmp, CaseTable}
 use Rattle.cfb_tree.specs.Tree.{child_names, nothing, storage, stream, Content, IsOrderedInside}
 use Rattle.cfb_tree.specs.Directory.{kind_stream, Entry, Holds}
 use Rattle.cfb_tree.proofs.OneContent.{holds_unique}
@@ -13,7 +13,7 @@ pub all_always : {X : Type 0} (P : X → Type 0) → ((x : X) → P x) → (xs :
 all_always P so [] = tt
 all_always P so (x ∷ xs) = (so x, all_always P so xs)
 
-module _ (letters : Letters) (directory : List Entry) (Reads Other : Entry → List ℕ → Type 0) where
+module _ (letters : CaseTable) (directory : List Entry) (Reads Other : Entry → List ℕ → Type 0) where
   -- what the entries hold when each stream has other bytes
   pub record Refilled (content : Content) (ids all : List ℕ) : Type 0 where
     pub other : Content
@@ -50,7 +50,7 @@ module _ (letters : Letters) (directory : List Entry) (Reads Other : Entry → L
       }
 
 -- which entries a list of siblings has at all depths doesn't depend on the bytes of streams
-pub entries_same : (letters : Letters) (directory : List Entry) (Reads Other : Entry → List ℕ → Type 0) (t u : Content) (ids xs ys : List ℕ)
+pub entries_same : (letters : CaseTable) (directory : List Entry) (Reads Other : Entry → List ℕ → Type 0) (t u : Content) (ids xs ys : List ℕ)
     → Holds directory Reads ids t xs → Holds directory Other ids u ys → xs ≡ ys
 entries_same letters directory Reads Other t u ids xs ys h k =
     let Empty : Entry → List ℕ → Type 0 = λ e bytes. bytes ≡ [] in

@@ -4,7 +4,7 @@ use Rattle.std.proofs.Math.Seq.{drop-cons}
 use Rattle.std.proofs.lemmas.List.{take-append-drop}
 use Rattle.std.specs.Prelude.{if◌then◌else◌, nat_eq, slice_index_or}
 use Rattle.std.specs.List.{AllByRecursion}
-use Rattle.cfb_soundness.specs.Marks.{mark, times, CanTake, Takes}
+use Rattle.cfb_soundness.specs.Marks.{mark, times, CanTake, MarksEachOnce}
 
 pub drop_more : (xs : List ℕ) (i : ℕ) → i < length xs → drop i xs ≡ get_or xs i 0 ∷ drop (i + 1) xs
 drop_more xs i below = drop-cons xs i 0 below ∙ ap (λ k. get_or xs i 0 ∷ drop k xs) (let one : suc i ≡ i + 1 = omega arith in one)
@@ -25,16 +25,16 @@ pub all_mapped : {X : Type 0} (P Q : X → Type 0) → ((x : X) → P x → Q x)
 all_mapped P Q so [] all = tt
 all_mapped P Q so (x ∷ xs) all = (so x all.0, all_mapped P Q so xs all.1)
 
-pub takes_none : (marks : List Bool) → Takes [] marks marks
+pub takes_none : (marks : List Bool) → MarksEachOnce [] marks marks
 takes_none marks = record { size = refl; marks = λ n. omega arith }
 
-pub takes_then : (xs ys : List ℕ) (a b c : List Bool) → Takes xs a b → Takes ys b c → Takes (xs ++ ys) a c
+pub takes_then : (xs ys : List ℕ) (a b c : List Bool) → MarksEachOnce xs a b → MarksEachOnce ys b c → MarksEachOnce (xs ++ ys) a c
 takes_then xs ys a b c first second = record {
   size = second.size ∙ first.size;
   marks = λ n. omega (arith, first.marks n, second.marks n, times_append n xs ys);
 }
 
-pub can_take_rest : (xs ys : List ℕ) (a b : List Bool) → Takes xs a b → CanTake (xs ++ ys) a → CanTake ys b
+pub can_take_rest : (xs ys : List ℕ) (a b : List Bool) → MarksEachOnce xs a b → CanTake (xs ++ ys) a → CanTake ys b
 can_take_rest xs ys a b first can = record {
   there = all_mapped (λ n. n < length a) (λ n. n < length b) (λ n below. omega (arith, first.size, below)) ys (all_front (λ n. n < length a) xs ys can.there).1;
   once = λ n. omega (arith, first.marks n, can.once n, times_append n xs ys);
@@ -66,7 +66,7 @@ all_below marks (x ∷ xs) few =
     (marked_below marks x (omega (arith, few x, here)), all_below marks xs (λ n. omega (arith, few n)))
 
 -- what was marked could be
-pub could_take : (xs : List ℕ) (a b : List Bool) → Takes xs a b → CanTake xs a
+pub could_take : (xs : List ℕ) (a b : List Bool) → MarksEachOnce xs a b → CanTake xs a
 could_take xs a b took = record {
   there = subst (λ n. AllByRecursion (λ k. k < n) xs) took.size (all_below b xs (λ n. omega (arith, took.marks n)));
   once = λ n. omega (arith, took.marks n, mark_one b n);

@@ -12,18 +12,18 @@ use Rattle.cfb_chains.proofs.ChainWriting.{length-joined}
 use Rattle.cfb_fat.proofs.DifatChains.{below_in_file, in_file_below}
 use Rattle.cfb_tree.specs.Directory.{kind_storage, kind_stream, Entry}
 use Rattle.cfb_tree.proofs.OneContent.{Some_same}
-use Rattle.cfb_meaning.specs.Means.{directory, fat, mini_fat, mini_sector, mini_stream, HasBytes, IsInMiniStream, Layout}
-use Rattle.cfb_meaning.specs.Sound.{in_file, in_mini_stream, mini_places, EntryUses, IsUsable, LieInFile, Part}
+use Rattle.cfb_spec.specs.Means.{directory, fat, mini_fat, mini_sector, mini_stream, HasBytes, IsInMiniStream, Layout}
+use Rattle.cfb_spec.specs.Sound.{in_file, in_mini_stream, mini_places, EntryUses, IsUsablePart, LieInFile, Part}
 use Rattle.cfb_soundness.specs.Places.{places_of}
-use Rattle.cfb_soundness.specs.Uses.{mini_start, AreInUse, EntryHas, HasMiniSectors, HasSectors, Tables}
+use Rattle.cfb_soundness.specs.Uses.{mini_start, AreInUse, EntryHas, HasMiniSectors, HasSectors, SectorTables}
 use Rattle.cfb_soundness.proofs.Taking.{all_mapped}
 use Rattle.cfb_soundness.proofs.MiniPlaces.{mini_place, sector_places}
-use Rattle.cfb_owners.proofs.CutChains.{start_used}
-use Rattle.cfb_owners.proofs.KeysOfParts.{minis_among, minis_of_map, minis_of_sectors, sectors_among, sectors_of_map, sectors_of_minis}
+use Rattle.cfb_ownership.proofs.CutChains.{start_used}
+use Rattle.cfb_ownership.proofs.KeysOfParts.{minis_among, minis_of_map, minis_of_sectors, sectors_among, sectors_of_map, sectors_of_minis}
 use Rattle.cfb_fat.proofs.CutChains.{chain_of_cut, get_in_cut, get_of_cut}
 
 -- the tables that memory has of a file of these bytes, laid out so: the FAT is cut to the file's sectors
-abbrev pub told : List ℕ → Layout → Tables
+abbrev pub told : List ℕ → Layout → SectorTables
 told bytes l = record {
   version = l.version;
   fat = take (sectors_in l.version (length bytes)) (fat bytes l);
@@ -47,7 +47,7 @@ module _ (bytes : List ℕ) (l : Layout) where
   cut = take count (fat bytes l)
 
   abbrev pub IsUsableSector : ℕ → Type 0
-  IsUsableSector n = IsUsable bytes l (in_file n)
+  IsUsableSector n = IsUsablePart bytes l (in_file n)
 
   chain_in_cut : (start : ℕ) (ids : List ℕ) → AllByRecursion IsUsableSector ids → Chain (fat bytes l) start ids → Chain cut start ids
   chain_in_cut start [] all is = is
@@ -72,11 +72,11 @@ module _ (bytes : List ℕ) (l : Layout) where
       ((there.0, next, subst (λ n. slice_get (fat bytes l) n ≡ Some next) (sym is) found, start_used (fat bytes l) next ids rest), usable_chain next ids rest there.1)
 
   -- parts from numbers, and back
-  pub usable_sectors : (ids : List ℕ) → AllByRecursion IsUsableSector ids → AllByRecursion (IsUsable bytes l) (map in_file ids)
+  pub usable_sectors : (ids : List ℕ) → AllByRecursion IsUsableSector ids → AllByRecursion (IsUsablePart bytes l) (map in_file ids)
   usable_sectors [] all = tt
   usable_sectors (n ∷ ids) all = (all.0, usable_sectors ids all.1)
 
-  pub sectors_usable : (ids : List ℕ) → AllByRecursion (IsUsable bytes l) (map in_file ids) → AllByRecursion IsUsableSector ids
+  pub sectors_usable : (ids : List ℕ) → AllByRecursion (IsUsablePart bytes l) (map in_file ids) → AllByRecursion IsUsableSector ids
   sectors_usable [] all = tt
   sectors_usable (n ∷ ids) all = (all.0, sectors_usable ids all.1)
 
@@ -86,14 +86,14 @@ module _ (bytes : List ℕ) (l : Layout) where
   long_stream : length (mini_stream bytes l) ≡ length l.mini_stream_sectors * sector_len l.version
   long_stream = length-joined l.version bytes l.mini_stream_sectors
 
-  usable_minis : (start : ℕ) (ids : List ℕ) → Chain (mini_fat bytes l) start ids → AreInside ids → AllByRecursion (IsUsable bytes l) (map in_mini_stream ids)
+  usable_minis : (start : ℕ) (ids : List ℕ) → Chain (mini_fat bytes l) start ids → AreInside ids → AllByRecursion (IsUsablePart bytes l) (map in_mini_stream ids)
   usable_minis start [] chain inside = tt
   usable_minis start (x ∷ ids) (is, regular, next, found, rest) inside = (
     (omega (arith, inside 0 (omega arith), long_stream), next, subst (λ n. slice_get (mini_fat bytes l) n ≡ Some next) (sym is) found, start_used (mini_fat bytes l) next ids rest),
     usable_minis next ids rest (λ k below. inside (suc k) (omega (arith, below))),
   )
 
-  minis_inside : (ids : List ℕ) → AllByRecursion (IsUsable bytes l) (map in_mini_stream ids) → AreInside ids
+  minis_inside : (ids : List ℕ) → AllByRecursion (IsUsablePart bytes l) (map in_mini_stream ids) → AreInside ids
   minis_inside [] all k below = absurd (omega (arith, below))
   minis_inside (x ∷ ids) all zero below = omega (arith, all.0.0, long_stream)
   minis_inside (x ∷ ids) all (suc k) below = minis_inside ids all.1 k (omega (arith, below))
@@ -125,7 +125,7 @@ module _ (bytes : List ℕ) (l : Layout) where
     pub uses : EntryUses bytes l entry parts
     pub sectors_are : sectors_among parts ≡ own
     pub minis_are : minis_among parts ≡ minis
-    pub usable : AllByRecursion (IsUsable bytes l) parts
+    pub usable : AllByRecursion (IsUsablePart bytes l) parts
     pub has : entry.kind ≡ kind_stream → (content : List ℕ) × HasBytes bytes l entry content
 
   short_told : (id : ℕ) (e : Entry) (own minis : List ℕ) → slice_get (directory bytes l) id ≡ Some e → e.kind ≡ kind_stream → e.size < mini_cutoff
@@ -225,7 +225,7 @@ module _ (bytes : List ℕ) (l : Layout) where
 
   -- what memory tells of an entry, where its parts are usable
   pub entry_has : (id : ℕ) (e : Entry) (parts : List Part) → slice_get (directory bytes l) id ≡ Some e → EntryUses bytes l e parts → HasKind (HasBytes bytes l) id
-      → AllByRecursion (IsUsable bytes l) parts → EntryHas (told bytes l) id (sectors_among parts) (minis_among parts)
+      → AllByRecursion (IsUsablePart bytes l) parts → EntryHas (told bytes l) id (sectors_among parts) (minis_among parts)
   entry_has id e parts found uses (e', found', kind) usable =
       let same : e' ≡ e = Some_same (sym found' ∙ found) in
       let kind_is : (e.kind ≡ kind_storage) ⊎ ((e.kind ≡ kind_stream) × (content : List ℕ) × HasBytes bytes l e content) =
@@ -245,7 +245,7 @@ module _ (bytes : List ℕ) (l : Layout) where
             let mine = uses.short is below in
             let read = has.short below in
             let ids : read.sectors ≡ mine.0 = chain_unique (mini_fat bytes l) e.start read.sectors mine.0 read.chain mine.1 in
-            let inside = minis_inside mine.0 (subst (AllByRecursion (IsUsable bytes l)) mine.2 usable) in
+            let inside = minis_inside mine.0 (subst (AllByRecursion (IsUsablePart bytes l)) mine.2 usable) in
             let size : length content ≤ length mine.0 * 64 = omega (arith, ap length read.content_is, length-take e.size (flat_map (mini_sector bytes l) read.sectors), ap (λ xs. length (flat_map (mini_sector bytes l) xs)) ids, length-minis mine.0 inside) in (
               ap sectors_among mine.2 ∙ sectors_of_minis mine.0,
               subst (HasMiniSectors (told bytes l) e) (sym (ap minis_among mine.2 ∙ minis_of_map mine.0))
@@ -262,7 +262,7 @@ module _ (bytes : List ℕ) (l : Layout) where
             let mine = uses.long is up in
             let read = has.long up in
             let ids : read.sectors ≡ mine.0 = chain_unique (fat bytes l) e.start read.sectors mine.0 read.chain mine.1 in
-            let used = sectors_usable mine.0 (subst (AllByRecursion (IsUsable bytes l)) mine.2 usable) in
+            let used = sectors_usable mine.0 (subst (AllByRecursion (IsUsablePart bytes l)) mine.2 usable) in
             let size : length content ≤ length mine.0 * sector_len l.version = omega (arith, ap length read.content_is, length-take e.size (joined l.version bytes read.sectors), ap (λ xs. length (joined l.version bytes xs)) ids, length-joined l.version bytes mine.0) in (
               ap minis_among mine.2 ∙ minis_of_sectors mine.0,
               subst (HasSectors (told bytes l) e) (sym (ap sectors_among mine.2 ∙ sectors_of_map mine.0))

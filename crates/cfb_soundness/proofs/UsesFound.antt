@@ -5,12 +5,12 @@ use Rattle.cfb_sectors.specs.Sectors.{sector_start, Chain}
 use Rattle.cfb_sectors.proofs.OneChain.{chain_unique}
 use Rattle.cfb_tree.specs.Directory.{Entry}
 use Rattle.cfb_mini.specs.Minis.{AreInside}
-use Rattle.cfb_soundness.specs.Marks.{CanTake, Takes}
+use Rattle.cfb_soundness.specs.Marks.{CanTake, MarksEachOnce}
 use Rattle.cfb_soundness.specs.Places.{HoldBytes}
-use Rattle.cfb_soundness.specs.Uses.{mini_start, HasMiniSectors, HasSectors, Tables}
+use Rattle.cfb_soundness.specs.Uses.{mini_start, HasMiniSectors, HasSectors, SectorTables}
 use Rattle.cfb_soundness.proofs.Taking.{can_take_front, can_take_rest, takes_then}
 
-module _ (t : Tables) (e : Entry) (links starts : List ℕ) (piece : ℕ) where
+module _ (t : SectorTables) (e : Entry) (links starts : List ℕ) (piece : ℕ) where
   pub long_is : (ids : List ℕ) → Chain t.fat e.start links → HasSectors t e ids → ids ≡ links
   long_is ids chain has = chain_unique t.fat e.start ids links has.chain chain
 
@@ -41,24 +41,24 @@ module _ (t : Tables) (e : Entry) (links starts : List ℕ) (piece : ℕ) where
 
 -- five lists, one after the other
 module _ (a b d e f : List ℕ) (m0 m1 m2 m3 m4 m5 : List Bool) where
-  pub take_five : Takes a m0 m1 → Takes b m1 m2 → Takes d m2 m3 → Takes e m3 m4 → Takes f m4 m5 → Takes (a ++ b ++ d ++ e ++ f) m0 m5
+  pub take_five : MarksEachOnce a m0 m1 → MarksEachOnce b m1 m2 → MarksEachOnce d m2 m3 → MarksEachOnce e m3 m4 → MarksEachOnce f m4 m5 → MarksEachOnce (a ++ b ++ d ++ e ++ f) m0 m5
   take_five first second third fourth fifth =
       takes_then (a ++ b ++ d ++ e) f m0 m4 m5 (takes_then (a ++ b ++ d) e m0 m3 m4 (takes_then (a ++ b) d m0 m2 m3 (takes_then a b m0 m1 m2 first second) third) fourth) fifth
 
   pub can_first : CanTake (a ++ b ++ d ++ e ++ f) m0 → CanTake a m0
   can_first can = can_take_front a b m0 (can_take_front (a ++ b) d m0 (can_take_front (a ++ b ++ d) e m0 (can_take_front (a ++ b ++ d ++ e) f m0 can)))
 
-  pub can_second : Takes a m0 m1 → CanTake (a ++ b ++ d ++ e ++ f) m0 → CanTake b m1
+  pub can_second : MarksEachOnce a m0 m1 → CanTake (a ++ b ++ d ++ e ++ f) m0 → CanTake b m1
   can_second first can = can_take_rest a b m0 m1 first (can_take_front (a ++ b) d m0 (can_take_front (a ++ b ++ d) e m0 (can_take_front (a ++ b ++ d ++ e) f m0 can)))
 
-  pub can_third : Takes a m0 m1 → Takes b m1 m2 → CanTake (a ++ b ++ d ++ e ++ f) m0 → CanTake d m2
+  pub can_third : MarksEachOnce a m0 m1 → MarksEachOnce b m1 m2 → CanTake (a ++ b ++ d ++ e ++ f) m0 → CanTake d m2
   can_third first second can =
       can_take_rest (a ++ b) d m0 m2 (takes_then a b m0 m1 m2 first second) (can_take_front (a ++ b ++ d) e m0 (can_take_front (a ++ b ++ d ++ e) f m0 can))
 
-  pub can_fourth : Takes a m0 m1 → Takes b m1 m2 → Takes d m2 m3 → CanTake (a ++ b ++ d ++ e ++ f) m0 → CanTake e m3
+  pub can_fourth : MarksEachOnce a m0 m1 → MarksEachOnce b m1 m2 → MarksEachOnce d m2 m3 → CanTake (a ++ b ++ d ++ e ++ f) m0 → CanTake e m3
   can_fourth first second third can =
       can_take_rest (a ++ b ++ d) e m0 m3 (takes_then (a ++ b) d m0 m2 m3 (takes_then a b m0 m1 m2 first second) third) (can_take_front (a ++ b ++ d ++ e) f m0 can)
 
-  pub can_fifth : Takes a m0 m1 → Takes b m1 m2 → Takes d m2 m3 → Takes e m3 m4 → CanTake (a ++ b ++ d ++ e ++ f) m0 → CanTake f m4
+  pub can_fifth : MarksEachOnce a m0 m1 → MarksEachOnce b m1 m2 → MarksEachOnce d m2 m3 → MarksEachOnce e m3 m4 → CanTake (a ++ b ++ d ++ e ++ f) m0 → CanTake f m4
   can_fifth first second third fourth can =
       can_take_rest (a ++ b ++ d ++ e) f m0 m4 (takes_then (a ++ b ++ d) e m0 m3 m4 (takes_then (a ++ b) d m0 m2 m3 (takes_then a b m0 m1 m2 first second) third) fourth) can

@@ -12,7 +12,7 @@ abbrev pub mark : List Bool → ℕ → ℕ
 mark marks n = if slice_index_or marks n false then 1 else 0
 
 -- these parts were marked, each once, and none was marked before
-pub record Takes (parts : List ℕ) (old new : List Bool) : Type 0 where
+pub record MarksEachOnce (parts : List ℕ) (old new : List Bool) : Type 0 where
   pub size : length new ≡ length old
   pub marks : (n : ℕ) → mark new n ≡ times n parts + mark old n
 

@@ -12,7 +12,7 @@ use Rattle.cfb_mini.specs.Minis.{AreInside}
 use Rattle.cfb_soundness.specs.Places.{HoldBytes}
 
 -- the FAT and the mini FAT, the mini stream's sectors and how many bytes it has, the directory's entries, and the file's bytes
-pub record Tables : Type 0 where
+pub record SectorTables : Type 0 where
   pub version : Version
   pub fat : List ℕ
   pub mini_fat : List ℕ
@@ -22,22 +22,22 @@ pub record Tables : Type 0 where
   pub file_len : ℕ
 
 -- where a mini sector begins in the file: it lies in one sector of the mini stream ([MS-CFB] 2.4)
-abbrev pub mini_start : Tables → ℕ → ℕ
+abbrev pub mini_start : SectorTables → ℕ → ℕ
 mini_start t n = sector_start t.version (slice_index t.mini_stream (64 * n / sector_len t.version)) + 64 * n % sector_len t.version
 
 -- a stream of at least 4096 bytes has these sectors, and its bytes stand in the file ([MS-CFB] 2.6.3)
-pub record HasSectors (t : Tables) (e : Entry) (sectors : List ℕ) : Type 0 where
+pub record HasSectors (t : SectorTables) (e : Entry) (sectors : List ℕ) : Type 0 where
   pub chain : Chain t.fat e.start sectors
   pub held : HoldBytes (sector_len t.version) (map (sector_start t.version) sectors) e.size t.file_len
 
 -- a shorter one has these mini sectors, and its bytes stand in the file ([MS-CFB] 2.4)
-pub record HasMiniSectors (t : Tables) (e : Entry) (minis : List ℕ) : Type 0 where
+pub record HasMiniSectors (t : SectorTables) (e : Entry) (minis : List ℕ) : Type 0 where
   pub chain : Chain t.mini_fat e.start minis
   pub inside : AreInside t.mini_len minis
   pub held : HoldBytes 64 (map (mini_start t) minis) e.size t.file_len
 
 -- entry `id` uses these sectors and these mini sectors: a stream those of its chain, another entry none
-pub record EntryHas (t : Tables) (id : ℕ) (sectors minis : List ℕ) : Type 0 where
+pub record EntryHas (t : SectorTables) (id : ℕ) (sectors minis : List ℕ) : Type 0 where
   pub entry : Entry
   pub found : slice_get t.entries id ≡ Some entry
   pub short : entry.kind ≡ kind_stream → entry.size < mini_cutoff → (sectors ≡ []) × HasMiniSectors t entry minis
@@ -45,7 +45,7 @@ pub record EntryHas (t : Tables) (id : ℕ) (sectors minis : List ℕ) : Type 0 
   pub other : entry.kind ≢ kind_stream → (sectors ≡ []) × (minis ≡ [])
 
 -- so do these entries, one after the other
-abbrev pub EntriesHave : Tables → List ℕ → List ℕ → List ℕ → Type 0
+abbrev pub EntriesHave : SectorTables → List ℕ → List ℕ → List ℕ → Type 0
 EntriesHave t [] sectors minis = (sectors ≡ []) × (minis ≡ [])
 EntriesHave t (id ∷ ids) sectors minis =
     (own : List ℕ) × (rest : List ℕ) × (own_minis : List ℕ) × (rest_minis : List ℕ) × EntryHas t id own own_minis
@@ -56,5 +56,5 @@ abbrev pub AreInUse : List ℕ → List ℕ → Type 0
 AreInUse fat sectors = AllByRecursion (λ n. (next : ℕ) × (slice_get fat n ≡ Some next) × (next ≢ free)) sectors
 
 -- want of memory, or a fault before has left the layer below in a state of failure
-abbrev pub IsWant : Bool → Error → Type 0
-IsWant failed e = (e ≡ Memory) ⊎ ((e ≡ Failed) × (failed ≡ true))
+abbrev pub IsOutOfMemoryOrFailed : Bool → Error → Type 0
+IsOutOfMemoryOrFailed failed e = (e ≡ Memory) ⊎ ((e ≡ Failed) × (failed ≡ true))

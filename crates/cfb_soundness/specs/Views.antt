@@ -3,11 +3,11 @@ use Rattle.std.specs.Prelude.{◌≡◌, ℕ, ◌++◌, Bool, false, List, IsTru
 use Rattle.cfb_medium.specs.declared.medium.ReadMedium.{Ghosts}
 use Rattle.cfb_fat.specs.Tables.{difat_sectors_of, fat_of, fat_sectors_of, has_failed_here, is_honest, version_of}
 use Rattle.cfb_directory.specs.Views.{directory_ids, entries_held}
-use Rattle.cfb_mini.specs.Views.{allocator_of, directory_of, mini_fat_ids, mini_fat_of, mini_stream_ids, mini_stream_len, IsMini}
+use Rattle.cfb_mini.specs.Views.{allocator_of, directory_of, mini_fat_ids, mini_fat_of, mini_stream_ids, mini_stream_len, MiniMatchesBytes}
 use Rattle.cfb_mini.specs.declared.mini_allocator.MiniAllocator.{MiniAllocator}
-use Rattle.cfb_meaning.specs.Means.{Layout}
-use Rattle.cfb_soundness.specs.Marks.{CanTake, Takes}
-use Rattle.cfb_soundness.specs.Uses.{Tables}
+use Rattle.cfb_spec.specs.Means.{Layout}
+use Rattle.cfb_soundness.specs.Marks.{CanTake, MarksEachOnce}
+use Rattle.cfb_soundness.specs.Uses.{SectorTables}
 use Rattle.cfb_soundness.specs.declared.marks.Marks.{Marks}
 use Rattle.cfb_soundness.specs.declared.streams.Taken.{Taken}
 
@@ -17,8 +17,8 @@ marks_of it = it.items.items
 
 -- these sectors and these mini sectors were marked, each once, and none was marked before
 pub record TakesBoth (sectors minis : List ℕ) (old new : Taken) : Type 0 where
-  pub of_sectors : Takes sectors (marks_of old.sectors) (marks_of new.sectors)
-  pub of_minis : Takes minis (marks_of old.minis) (marks_of new.minis)
+  pub of_sectors : MarksEachOnce sectors (marks_of old.sectors) (marks_of new.sectors)
+  pub of_minis : MarksEachOnce minis (marks_of old.minis) (marks_of new.minis)
 
 -- there are marks for these sectors and mini sectors, none of them is marked, and none stands twice among them
 pub record CanTakeBoth (sectors minis : List ℕ) (it : Taken) : Type 0 where
@@ -27,7 +27,7 @@ pub record CanTakeBoth (sectors minis : List ℕ) (it : Taken) : Type 0 where
 
 module _ {F : Type 0} {g : Ghosts F} where
   -- the tables in memory, of a file of so many bytes
-  abbrev pub tables_in : MiniAllocator F g → ℕ → Tables
+  abbrev pub tables_in : MiniAllocator F g → ℕ → SectorTables
   tables_in it file_len = record {
     version = version_of (allocator_of it);
     fat = fat_of (allocator_of it);
@@ -42,7 +42,7 @@ module _ {F : Type 0} {g : Ghosts F} where
   pub record LiesSo (it : MiniAllocator F g) (l : Layout) : Type 0 where
     pub live : has_failed_here (allocator_of it) ≡ false
     pub honest : IsTrue (is_honest (allocator_of it))
-    pub memory : IsMini it
+    pub memory : MiniMatchesBytes it
     pub version : l.version ≡ version_of (allocator_of it)
     pub difat_sectors : l.difat_sectors ≡ difat_sectors_of (allocator_of it)
     pub fat_sectors : l.fat_sectors ≡ fat_sectors_of (allocator_of it)

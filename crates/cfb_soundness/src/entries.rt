@@ -47,7 +47,7 @@ fn children_of(entry: &DirEntry) -> u32
 fn push_steps(pending: &mut Vec<Step>, entry: &DirEntry, id: u32) -> Result<(), Error>
     ensures added { OnOk result (pending.new.items
         ≡ pending.old.items ++ steps_at (entry_in entry.now) id) }
-    ensures error { IfErr result (λ e. e ≡ Memory) }
+    ensures errors { IfErr result (λ e. e ≡ Memory) }
 {
     pending.push(Step::Hanging(entry.right_sibling))?;
     pending.push(Step::Hanging(children_of(entry)))?;
@@ -74,7 +74,7 @@ pub fn tree_entries<F: ReadMedium>(
     directory: &Directory<F>,
 ) -> Result<Vec<u32>, Error>
     ensures all { IfOk result (λ ids. AreTreeEntries (entries_held directory.now) ids.items) }
-    ensures error { IfErr result (λ e. e ≡ Memory) }
+    ensures errors { IfErr result (λ e. e ≡ Memory) }
 {
     let mut ids = Vec::new(alloc);
     let mut pending = Vec::new(alloc);

@@ -1,6 +1,6 @@
 //! Marks of the parts of a file: which of them serve a use.
 ghost use Rattle.cfb_medium.specs.declared.error.Error.TheVariants.{Memory};
-ghost use Rattle.cfb_soundness.specs.Marks.{mark, CanTake, Takes};
+ghost use Rattle.cfb_soundness.specs.Marks.{mark, CanTake, MarksEachOnce};
 ghost use Rattle.std.specs.Prelude.{[], false, length, replicate, true, IfErr, IfOk, IsTrue, ◌<◌, ◌∷◌, ◌≡◌, ◌↔◌};
 
 use cfb_medium::Error;
@@ -18,7 +18,7 @@ impl Marks {
     // No part of so many is marked.
     pub(crate) fn new(alloc: Global, count: usize) -> Result<Marks, Error>
         ensures none { IfOk result (λ it. marks_of it ≡ replicate count false) }
-        ensures error { IfErr result (λ e. e ≡ Memory) }
+        ensures errors { IfErr result (λ e. e ≡ Memory) }
     {
         let items = vec![in alloc; false; count]?;
         Ok(Marks { items })
@@ -41,8 +41,9 @@ impl Marks {
 
     // Marks a part; `false` where there is none, or it is marked.
     fn take(&mut self, part: u32) -> bool
-        ensures took { IsTrue result → Takes (part ∷ []) (marks_of self.old) (marks_of self.new) }
-        ensures refused { result ≡ false → CanTake (part ∷ []) (marks_of self.old) → ⊥ }
+        ensures took { IsTrue result
+            → MarksEachOnce (part ∷ []) (marks_of self.old) (marks_of self.new) }
+        ensures refused_only_if { result ≡ false → CanTake (part ∷ []) (marks_of self.old) → ⊥ }
     {
         if !self.is_there(part) {
             return false;
@@ -56,8 +57,9 @@ impl Marks {
 
     // Marks these parts; `false` where there is no mark for one, or one is marked, or stands twice among them.
     pub(crate) fn take_all(&mut self, parts: &[u32]) -> bool
-        ensures took { IsTrue result → Takes parts.now (marks_of self.old) (marks_of self.new) }
-        ensures refused { result ≡ false → CanTake parts.now (marks_of self.old) → ⊥ }
+        ensures took { IsTrue result
+            → MarksEachOnce parts.now (marks_of self.old) (marks_of self.new) }
+        ensures refused_only_if { result ≡ false → CanTake parts.now (marks_of self.old) → ⊥ }
     {
         for part in parts {
             if !self.take(*part) {

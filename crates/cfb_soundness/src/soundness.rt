@@ -1,14 +1,14 @@
 //! Whether a file is sound: each of its parts serves one use at most, and none that is used is missing ([MS-CFB] 2).
 ghost use Rattle.cfb_fat.specs.Tables.{bytes_of, fat_of, has_failed_here, sectors_of};
-ghost use Rattle.cfb_meaning.specs.Means.{Layout, MeansBy};
-ghost use Rattle.cfb_meaning.specs.Sound.{IsSound};
+ghost use Rattle.cfb_spec.specs.Means.{Layout, BytesMeanTreeBy};
+ghost use Rattle.cfb_spec.specs.Sound.{IsSoundContainer};
 ghost use Rattle.cfb_medium.specs.declared.error.Error.TheVariants.{Failed, Memory};
 ghost use Rattle.cfb_mini.specs.Views.{allocator_of};
 ghost use Rattle.cfb_sectors.specs.Held.{count_of};
-ghost use Rattle.cfb_soundness.specs.Marks.{CanTake, Takes};
-ghost use Rattle.cfb_soundness.specs.Uses.{AreInUse, IsWant};
+ghost use Rattle.cfb_soundness.specs.Marks.{CanTake, MarksEachOnce};
+ghost use Rattle.cfb_soundness.specs.Uses.{AreInUse, IsOutOfMemoryOrFailed};
 ghost use Rattle.cfb_soundness.specs.Views.{marks_of, table_sectors, LiesSo};
-ghost use Rattle.cfb_tree.specs.Names.{Letters};
+ghost use Rattle.cfb_tree.specs.Names.{CaseTable};
 ghost use Rattle.cfb_tree.specs.Tree.{Tree};
 ghost use Rattle.cfb_tree.specs.Entries.{HasSize};
 ghost use Rattle.std.specs.Prelude.{[], false, length, true, IfErr, IfOk, IsErrOf, IsTrue, ◌∷◌, ◌≡◌, ◌≤◌, ◌↔◌};
@@ -59,8 +59,8 @@ fn are_in_use<F: ReadMedium>(allocator: &Allocator<F>, sector_ids: &[u32]) -> bo
 // Marks the sectors of FAT, DIFAT, directory, mini FAT and mini stream; `false` where one of them serves two uses.
 fn take_tables<F: ReadMedium>(file: &MiniAllocator<F>, sectors: &mut Marks) -> bool
     ensures took { IsTrue result
-        → Takes (table_sectors file.now) (marks_of sectors.old) (marks_of sectors.new) }
-    ensures refused { result ≡ false
+        → MarksEachOnce (table_sectors file.now) (marks_of sectors.old) (marks_of sectors.new) }
+    ensures refused_only_if { result ≡ false
         → CanTake (table_sectors file.now) (marks_of sectors.old) → ⊥ }
 {
     let allocator = file.directory().allocator();
@@ -88,12 +88,13 @@ pub fn is_sound<F: ReadMedium>(
     file: &MiniAllocator<F>,
     file_len: u64,
 ) -> Result<bool, Error>
-    ensures sound { IfOk result (λ sound. (letters : Letters) (l : Layout) (tree : Tree)
+    ensures sound { IfOk result (λ sound. (letters : CaseTable) (l : Layout) (tree : Tree)
         → LiesSo file.now l → file_len ≡ length (bytes_of (allocator_of file.now))
-        → MeansBy l HasSize letters (bytes_of (allocator_of file.now)) tree
-        → IsTrue sound ↔ IsSound letters (bytes_of (allocator_of file.now))) }
-    ensures failed { has_failed_here (allocator_of file.now) ≡ true → IsErrOf result Failed }
-    ensures error { IfErr result (IsWant (has_failed_here (allocator_of file.now))) }
+        → BytesMeanTreeBy l HasSize letters (bytes_of (allocator_of file.now)) tree
+        → IsTrue sound ↔ IsSoundContainer letters (bytes_of (allocator_of file.now))) }
+    ensures when_failed { has_failed_here (allocator_of file.now) ≡ true → IsErrOf result Failed }
+    ensures errors { IfErr result
+        (IsOutOfMemoryOrFailed (has_failed_here (allocator_of file.now))) }
 {
     let allocator = file.directory().allocator();
     if allocator.is_failed() {

@@ -7,8 +7,8 @@ ghost use Rattle.cfb_mini.specs.Minis.{AreInside};
 ghost use Rattle.cfb_mini.specs.Views.{allocator_of, mini_fat_of, mini_stream_ids, mini_stream_len};
 ghost use Rattle.cfb_chains.specs.LinkViews.{ids_of};
 ghost use Rattle.cfb_sectors.specs.Sectors.{sector_start, Chain as IsChain};
-ghost use Rattle.cfb_soundness.specs.Marks.{CanTake, Takes};
-ghost use Rattle.cfb_soundness.specs.Uses.{mini_start, EntriesHave, EntryHas, HasMiniSectors, HasSectors, IsWant};
+ghost use Rattle.cfb_soundness.specs.Marks.{CanTake, MarksEachOnce};
+ghost use Rattle.cfb_soundness.specs.Uses.{mini_start, EntriesHave, EntryHas, HasMiniSectors, HasSectors, IsOutOfMemoryOrFailed};
 ghost use Rattle.cfb_soundness.specs.Views.{marks_of, tables_in, CanTakeBoth, TakesBoth};
 ghost use Rattle.cfb_tree.specs.EntryViews.{entry_in};
 ghost use Rattle.std.specs.Prelude.{false, map, slice_index, IfErr, IfOk, IfSome, IfNone, IsTrue, List, ℕ, ◌%◌, ◌*◌, ◌+◌, ◌/◌, ◌≡◌, ◌⊎◌};
@@ -33,7 +33,7 @@ pub(crate) struct Taken {
 // Where sectors begin in a file.
 fn sector_starts(alloc: Global, version: Version, ids: &[u32]) -> Result<Vec<u64>, Error>
     ensures starts { IfOk result (λ starts. starts.items ≡ map (sector_start version) ids.now) }
-    ensures error { IfErr result (λ e. e ≡ Memory) }
+    ensures errors { IfErr result (λ e. e ≡ Memory) }
 {
     let mut starts = Vec::new(alloc);
     for id in ids {
@@ -64,7 +64,7 @@ fn mini_starts<F: ReadMedium>(
 ) -> Result<Vec<u64>, Error>
     ensures starts { (file_len : ℕ) → IfOk result (λ starts. starts.items
         ≡ map (mini_start (tables_in file.now file_len)) ids.now) }
-    ensures error { IfErr result (λ e. e ≡ Memory) }
+    ensures errors { IfErr result (λ e. e ≡ Memory) }
 {
     let version = file.version();
     let stream = file.mini_stream_sectors();
@@ -81,7 +81,8 @@ fn chain_from<F: ReadMedium>(file: &MiniAllocator<F>, start: u32) -> Result<Opti
         IsChain (fat_of (allocator_of file.now)) start (ids_of links))) }
     ensures none { IfOk result (λ found. IfNone found ((sectors : List ℕ)
         → IsChain (fat_of (allocator_of file.now)) start sectors → ⊥)) }
-    ensures error { IfErr result (IsWant (has_failed_here (allocator_of file.now))) }
+    ensures errors { IfErr result
+        (IsOutOfMemoryOrFailed (has_failed_here (allocator_of file.now))) }
 {
     match file.directory().allocator().open_chain(start) {
         Ok(links) => Ok(Some(links)),
@@ -101,7 +102,7 @@ fn mini_chain_from<F: ReadMedium>(
     ensures none { IfOk result (λ found. IfNone found ((minis : List ℕ)
         → IsChain (mini_fat_of file.now) start minis
         → AreInside (mini_stream_len file.now) minis → ⊥)) }
-    ensures error { IfErr result (λ e. e ≡ Memory) }
+    ensures errors { IfErr result (λ e. e ≡ Memory) }
 {
     match file.open_mini_chain(start) {
         Ok(links) => Ok(Some(links)),
@@ -121,11 +122,12 @@ fn take_long<F: ReadMedium>(
 ) -> Result<bool, Error>
     ensures took { IfOk result (λ ok. IsTrue ok → (ids : List ℕ)
         × HasSectors (tables_in file.now file_len) (entry_in entry.now) ids
-        × Takes ids (marks_of sectors.old) (marks_of sectors.new)) }
-    ensures refused { IfOk result (λ ok. ok ≡ false → (ids : List ℕ)
+        × MarksEachOnce ids (marks_of sectors.old) (marks_of sectors.new)) }
+    ensures refused_only_if { IfOk result (λ ok. ok ≡ false → (ids : List ℕ)
         → HasSectors (tables_in file.now file_len) (entry_in entry.now) ids
         → CanTake ids (marks_of sectors.old) → ⊥) }
-    ensures error { IfErr result (IsWant (has_failed_here (allocator_of file.now))) }
+    ensures errors { IfErr result
+        (IsOutOfMemoryOrFailed (has_failed_here (allocator_of file.now))) }
 {
     let Some(links) = chain_from(file, entry.start_sector)? else {
         return Ok(false);
@@ -154,11 +156,11 @@ fn take_short<F: ReadMedium>(
 ) -> Result<bool, Error>
     ensures took { IfOk result (λ ok. IsTrue ok → (ids : List ℕ)
         × HasMiniSectors (tables_in file.now file_len) (entry_in entry.now) ids
-        × Takes ids (marks_of minis.old) (marks_of minis.new)) }
-    ensures refused { IfOk result (λ ok. ok ≡ false → (ids : List ℕ)
+        × MarksEachOnce ids (marks_of minis.old) (marks_of minis.new)) }
+    ensures refused_only_if { IfOk result (λ ok. ok ≡ false → (ids : List ℕ)
         → HasMiniSectors (tables_in file.now file_len) (entry_in entry.now) ids
         → CanTake ids (marks_of minis.old) → ⊥) }
-    ensures error { IfErr result (λ e. e ≡ Memory) }
+    ensures errors { IfErr result (λ e. e ≡ Memory) }
 {
     let Some(links) = mini_chain_from(file, entry.start_sector)? else {
         return Ok(false);
@@ -182,10 +184,11 @@ impl Taken {
         ensures took { IfOk result (λ ok. IsTrue ok → (own minis : List ℕ)
             × EntryHas (tables_in file.now file_len) id own minis
             × TakesBoth own minis self.old self.new) }
-        ensures refused { IfOk result (λ ok. ok ≡ false → (own minis : List ℕ)
+        ensures refused_only_if { IfOk result (λ ok. ok ≡ false → (own minis : List ℕ)
             → EntryHas (tables_in file.now file_len) id own minis
             → CanTakeBoth own minis self.old → ⊥) }
-        ensures error { IfErr result (IsWant (has_failed_here (allocator_of file.now))) }
+        ensures errors { IfErr result
+            (IsOutOfMemoryOrFailed (has_failed_here (allocator_of file.now))) }
     {
         if !file.directory().has_dir_entry(id) {
             return Ok(false);
@@ -211,10 +214,11 @@ impl Taken {
         ensures took { IfOk result (λ ok. IsTrue ok → (sectors minis : List ℕ)
             × EntriesHave (tables_in file.now file_len) ids.now sectors minis
             × TakesBoth sectors minis self.old self.new) }
-        ensures refused { IfOk result (λ ok. ok ≡ false → (sectors minis : List ℕ)
+        ensures refused_only_if { IfOk result (λ ok. ok ≡ false → (sectors minis : List ℕ)
             → EntriesHave (tables_in file.now file_len) ids.now sectors minis
             → CanTakeBoth sectors minis self.old → ⊥) }
-        ensures error { IfErr result (IsWant (has_failed_here (allocator_of file.now))) }
+        ensures errors { IfErr result
+            (IsOutOfMemoryOrFailed (has_failed_here (allocator_of file.now))) }
     {
         for id in ids {
             if !self.take_entry(alloc, file, file_len, *id)? {

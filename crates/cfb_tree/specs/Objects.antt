@@ -2,7 +2,7 @@
 use Rattle.std.specs.Prelude.{◌≡◌, ℕ, Bool, List, [], ◌∷◌, Option, Some, None, if◌then◌else◌, codes, nat_eq, slice_get}
 use Rattle.std.specs.List.{IsDistinct}
 use Rattle.std.specs.Ordering.{is_eq}
-use Rattle.cfb_tree.specs.Names.{Letters, name_cmp}
+use Rattle.cfb_tree.specs.Names.{CaseTable, name_cmp}
 use Rattle.cfb_tree.specs.Paths.{Path}
 use Rattle.cfb_tree.specs.Tree.{Facts, Content, nothing, stream, storage, Tree, IsOrdered}
 use Rattle.cfb_tree.specs.Directory.{Entry, Siblings, Holds, IsStream, IsStorage, kind_root}
@@ -37,11 +37,11 @@ tree_of old (a_stream name state_bits bytes) = old
 tree_of old (a_storage name facts inside) = record { root = facts; content = inside }
 
 -- two names that are one name under the letter table ([MS-CFB] 2.6.4)
-abbrev pub is_same_name : Letters → List ℕ → List ℕ → Bool
+abbrev pub is_same_name : CaseTable → List ℕ → List ℕ → Bool
 is_same_name letters a b = is_eq (name_cmp letters a b)
 
 -- the child of this name ([MS-CFB] 2.6.4)
-abbrev pub child : Letters → Content → List ℕ → Option Object
+abbrev pub child : CaseTable → Content → List ℕ → Option Object
 child letters nothing wanted = None
 child letters (stream name state_bits bytes later) wanted =
     if is_same_name letters wanted name then Some (a_stream name state_bits bytes) else child letters later wanted
@@ -49,13 +49,13 @@ child letters (storage name facts inside later) wanted =
     if is_same_name letters wanted name then Some (a_storage name facts inside) else child letters later wanted
 
 -- the object that a path leads to from an object ([MS-CFB] 1.3)
-abbrev pub object_from : Letters → Option Object → Path → Option Object
+abbrev pub object_from : CaseTable → Option Object → Path → Option Object
 object_from letters None path = None
 object_from letters (Some object) [] = Some object
 object_from letters (Some object) (name ∷ names) = object_from letters (child letters (inside_of object) name) names
 
 -- the object at a path ([MS-CFB] 1.3)
-abbrev pub object_at : Letters → Tree → Path → Option Object
+abbrev pub object_at : CaseTable → Tree → Path → Option Object
 object_at letters tree path = object_from letters (Some (root_object tree)) path
 
 -- two contents as one ([MS-CFB] 1.3)
@@ -74,7 +74,7 @@ IsObject directory Reads id (a_storage name facts inside) own =
 
 -- the directory holds the tree, where `Reads` says which bytes a stream has: entry 0 is the root, no entry stands twice in the
 -- tree, and siblings rise strictly ([MS-CFB] 2.6.2, 2.6.4)
-pub record HoldsTree (letters : Letters) (Reads : Entry → List ℕ → Type 0) (directory : List Entry) (tree : Tree) : Type 0 where
+pub record EntriesHoldTree (letters : CaseTable) (Reads : Entry → List ℕ → Type 0) (directory : List Entry) (tree : Tree) : Type 0 where
   pub root : Entry
   pub root_found : slice_get directory 0 ≡ Some root
   pub root_kind : root.kind ≡ kind_root

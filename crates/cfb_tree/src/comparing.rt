@@ -1,7 +1,7 @@
 //! A name against that of an entry, without memory.
 ghost use Rattle.cfb_tree.specs.Directory.{HasName};
 ghost use Rattle.cfb_tree.specs.EntryViews.{entry_in};
-ghost use Rattle.cfb_tree.specs.LetterViews.{letters_of};
+ghost use Rattle.cfb_tree.specs.CaseTableViews.{case_table_of};
 ghost use Rattle.cfb_tree.specs.Names.{name_cmp, name_key};
 ghost use Rattle.std.specs.Char.Utf16.{utf16_chars};
 ghost use Rattle.std.specs.Char.{IsScalar};
@@ -72,7 +72,7 @@ fn decoded_units(units: &[u16]) -> Option<([char; MOST_UNITS], usize)>
 // The number of units of a key.
 fn chars_key_len(letters: &CaseMapper, chars: &[char]) -> usize
     requires { length chars.now ≤ 31 }
-    ensures { result ≡ length (name_key (letters_of letters.now) chars.now) }
+    ensures { result ≡ length (name_key (case_table_of letters.now) chars.now) }
 {
     let mut units = 0;
     for ch in chars {
@@ -85,8 +85,8 @@ fn chars_key_len(letters: &CaseMapper, chars: &[char]) -> usize
 fn compare_chars(letters: &CaseMapper, one: &str, other: &[char]) -> Ordering
     requires { AllByRecursion IsScalar other.now }
     ensures { result
-        ≡ slice_cmp nat_cmp (name_key (letters_of letters.now) (chars one.now))
-        (name_key (letters_of letters.now) other.now) }
+        ≡ slice_cmp nat_cmp (name_key (case_table_of letters.now) (chars one.now))
+        (name_key (case_table_of letters.now) other.now) }
 {
     let ranks = one.chars().map(|ch| rank(letters.letter(ch)));
     ranks.cmp(other.iter().map(|ch| rank(letters.letter(*ch))))
@@ -97,7 +97,7 @@ impl DirEntry {
     pub fn compare_name(&self, letters: &CaseMapper, name: &str) -> Option<Ordering>
         ensures { MatchOption result ((own : List ℕ) → HasName (entry_in self.now) own → ⊥)
             (λ order. (own : List ℕ) × HasName (entry_in self.now) own
-            × (order ≡ name_cmp (letters_of letters.now) (chars name.now) own)) }
+            × (order ≡ name_cmp (case_table_of letters.now) (chars name.now) own)) }
     {
         let Some(units) = self.units() else {
             return None;

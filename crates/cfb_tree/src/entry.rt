@@ -2,7 +2,7 @@
 ghost use Rattle.cfb_medium.specs.Numbers.{number_bytes, u64_at};
 ghost use Rattle.cfb_medium.specs.Times.{units_of};
 ghost use Rattle.cfb_medium.specs.declared.error.Error.TheVariants.{InvalidData, Memory, UnexpectedEof};
-ghost use Rattle.cfb_sectors.specs.Appended.{Begins};
+ghost use Rattle.cfb_sectors.specs.Appended.{IsPrefixOf};
 ghost use Rattle.cfb_sectors.specs.Copies.{unused_entry};
 ghost use Rattle.cfb_tree.specs.Directory.{clsid_of, entry_bytes, entry_of, name_units_of, size_of, FitsEntry, HasName};
 ghost use Rattle.cfb_tree.specs.Entries.{empty_entry, empty_root, name_field, new_entry, IsTakenBelow, IsTakenRoot};
@@ -114,7 +114,7 @@ fn time_at(bytes: &[u8], place: usize) -> Timestamp
 fn push_u16s(out: &mut Vec<u8>, numbers: &[u16]) -> Result<(), AllocError>
     ensures ok { OnOk result (out.new.items
         ≡ out.old.items ++ flat_map (to_le_bytes w16) numbers.now) }
-    ensures kept { Begins out.old.items out.new.items }
+    ensures kept { IsPrefixOf out.old.items out.new.items }
 {
     for number in numbers {
         out.extend_from_slice(&number.to_le_bytes())?;
@@ -125,7 +125,7 @@ fn push_u16s(out: &mut Vec<u8>, numbers: &[u16]) -> Result<(), AllocError>
 // Appends numbers of four bytes.
 fn push_u32s(out: &mut Vec<u8>, numbers: &[u32]) -> Result<(), AllocError>
     ensures ok { OnOk result (out.new.items ≡ out.old.items ++ number_bytes numbers.now) }
-    ensures kept { Begins out.old.items out.new.items }
+    ensures kept { IsPrefixOf out.old.items out.new.items }
 {
     for number in numbers {
         out.extend_from_slice(&number.to_le_bytes())?;
@@ -229,7 +229,7 @@ impl DirEntry {
         ensures read { IfOk result (λ e. entry_in e ≡ entry_of version (take 128 reader.old.now)) }
         ensures rest { OnOk result (reader.new.now ≡ drop 128 reader.old.now) }
         ensures left { OnErr result (reader.new.now ≡ reader.old.now) }
-        ensures error { IfErr result (λ e. e ≡ UnexpectedEof) }
+        ensures errors { IfErr result (λ e. e ≡ UnexpectedEof) }
     {
         let bytes = *reader;
         if bytes.len() < DIR_ENTRY_LEN {
@@ -291,7 +291,7 @@ impl DirEntry {
     pub fn name(&self, alloc: Global) -> Result<String, Error>
         ensures named { IfOk result (λ name. HasName (entry_in self.now)
             (chars (string_bytes name))) }
-        ensures error { IfErr result (λ e. (e ≡ Memory)
+        ensures errors { IfErr result (λ e. (e ≡ Memory)
             ⊎ ((e ≡ InvalidData) × ((name : List ℕ) → HasName (entry_in self.now) name → ⊥))) }
     {
         if self.name_len % 2 != 0 {
@@ -369,7 +369,7 @@ impl DirEntry {
             ++ (to_le_bytes w16 self.now.name_len
             ++ self.now.kind ∷ self.now.color ∷ to_le_bytes w32 self.now.left_sibling
             ++ to_le_bytes w32 self.now.right_sibling ++ to_le_bytes w32 self.now.child))) }
-        ensures kept { Begins out.old.items out.new.items }
+        ensures kept { IsPrefixOf out.old.items out.new.items }
     {
         push_u16s(out, &self.name_units)?;
         push_u16s(out, &[self.name_len])?;
@@ -384,7 +384,7 @@ impl DirEntry {
             ++ to_le_bytes w64 (units_of self.now.creation_time)
             ++ to_le_bytes w64 (units_of self.now.modified_time)
             ++ to_le_bytes w32 self.now.start_sector ++ to_le_bytes w64 self.now.stream_len)) }
-        ensures kept { Begins out.old.items out.new.items }
+        ensures kept { IsPrefixOf out.old.items out.new.items }
     {
         out.extend_from_slice(&self.state_bits.to_le_bytes())?;
         self.creation_time.write_to(out)?;
@@ -398,7 +398,7 @@ impl DirEntry {
     fn append_to(&self, out: &mut Vec<u8>) -> Result<(), Error>
         ensures ok { OnOk result (out.new.items
             ≡ out.old.items ++ entry_bytes (entry_in self.now)) }
-        ensures kept { Begins out.old.items out.new.items }
+        ensures kept { IsPrefixOf out.old.items out.new.items }
     {
         self.append_head(out)?;
         out.extend_from_slice(&self.clsid.to_bytes_le())?;
@@ -409,8 +409,8 @@ impl DirEntry {
     pub fn write_to(&self, writer: &mut Vec<u8>) -> Result<(), Error>
         ensures ok { OnOk result (writer.new.items
             ≡ writer.old.items ++ entry_bytes (entry_in self.now)) }
-        ensures err { OnErr result (writer.new.items ≡ writer.old.items) }
-        ensures error { IfErr result (λ e. e ≡ Memory) }
+        ensures after_error { OnErr result (writer.new.items ≡ writer.old.items) }
+        ensures errors { IfErr result (λ e. e ≡ Memory) }
     {
         let len = writer.len();
         if self.append_to(writer).is_err() {
@@ -427,7 +427,7 @@ ghost use Rattle.cfb_tree.specs.EntryViews.{entry_in};
 pub fn entry_again(alloc: Global, entry: DirEntry, version: Version) -> Result<DirEntry, Error>
     requires { entry.stream_len ≤ stream_len_mask version }
     ensures same { IfOk result (λ e. entry_in e ≡ entry_in entry) }
-    ensures error { IfErr result (λ e. e ≡ Memory) }
+    ensures errors { IfErr result (λ e. e ≡ Memory) }
 {
     entry.fits(version);
     let mut bytes = Vec::new(alloc);

@@ -53,14 +53,14 @@ fn is_between(low: char, high: char, ch: char) -> bool
 }
 
 impl CaseMapper {
-    ghost use Rattle.cfb_tree.specs.LetterViews.{letters_of, ReplaceAlike};
+    ghost use Rattle.cfb_tree.specs.CaseTableViews.{case_table_of, ReplaceAlike};
 
     /// The table of these pairs of a character and the one that it counts as. `InvalidInput` where a character stands on
     /// two left sides, or a pair joins one UTF-16 unit with two. The one other error is `Memory`.
     pub fn new(alloc: Global, pairs: &[(char, char)]) -> Result<CaseMapper, Error>
-        ensures replaces { IfOk result (λ m. ReplaceAlike (letters_of m) pairs.now) }
+        ensures replaces { IfOk result (λ m. ReplaceAlike (case_table_of m) pairs.now) }
         ensures taken { OnOk result (AreLetters pairs.now) }
-        ensures error { IfErr result (λ e. (e ≡ Memory)
+        ensures errors { IfErr result (λ e. (e ≡ Memory)
             ⊎ ((e ≡ InvalidInput) × (AreLetters pairs.now → ⊥))) }
     {
         let mut letters = BTreeMap::new(alloc);
@@ -78,8 +78,8 @@ impl CaseMapper {
 
     /// The table of ASCII: each of a to z counts as its capital. The one error is `Memory`.
     pub fn ascii(alloc: Global) -> Result<CaseMapper, Error>
-        ensures replaces { IfOk result (λ m. ReplaceAlike (letters_of m) ascii_letters) }
-        ensures error { IfErr result (λ e. e ≡ Memory) }
+        ensures replaces { IfOk result (λ m. ReplaceAlike (case_table_of m) ascii_letters) }
+        ensures errors { IfErr result (λ e. e ≡ Memory) }
     {
         CaseMapper::new(alloc, &ASCII_LETTERS)
     }
@@ -87,7 +87,7 @@ impl CaseMapper {
     /// Whether the table names a character of a range: some pair has either side between `low` and `high`, both included. It takes
     /// no memory ([MS-CFB] 2.6.4).
     pub fn touches(&self, low: char, high: char) -> bool
-        ensures { result ≡ touches (letters_of self.now) low high }
+        ensures { result ≡ touches (case_table_of self.now) low high }
     {
         self.letters.iter().any(|(from, to)| is_between(low, high, *from)
             || is_between(low, high, *to))
@@ -95,7 +95,7 @@ impl CaseMapper {
 
     // The character that one counts as.
     pub(crate) fn letter(&self, ch: char) -> char
-        ensures { result ≡ letter (letters_of self.now) ch }
+        ensures { result ≡ letter (case_table_of self.now) ch }
     {
         self.letters.get(&ch).copied().unwrap_or(ch)
     }

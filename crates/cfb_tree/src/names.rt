@@ -1,6 +1,6 @@
 //! Names: which are valid, and their order.
 ghost use Rattle.cfb_medium.specs.declared.error.Error.TheVariants.{InvalidInput, Memory};
-ghost use Rattle.cfb_tree.specs.LetterViews.{letters_of};
+ghost use Rattle.cfb_tree.specs.CaseTableViews.{case_table_of};
 ghost use Rattle.cfb_tree.specs.Names.{is_forbidden, is_name, name_cmp, name_key, rank};
 ghost use Rattle.std.specs.Cmp.Lexicographic.{slice_cmp};
 ghost use Rattle.std.specs.Ordering.{nat_cmp};
@@ -19,8 +19,8 @@ const MOST_UNITS: usize = 31;
 #[tactic(auto, unfolding(crate::specs::Names::name_key))]
 pub fn name_key(alloc: Global, letters: &CaseMapper, name: &str) -> Result<Vec<u16>, Error>
     ensures key { IfOk result (λ key. key.items
-        ≡ name_key (letters_of letters.now) (chars name.now)) }
-    ensures error { IfErr result (λ e. e ≡ Memory) }
+        ≡ name_key (case_table_of letters.now) (chars name.now)) }
+    ensures errors { IfErr result (λ e. e ≡ Memory) }
 {
     let mut key = Vec::new(alloc);
     for ch in name.chars() {
@@ -32,7 +32,7 @@ pub fn name_key(alloc: Global, letters: &CaseMapper, name: &str) -> Result<Vec<u
 
 // The number of units of a name's key.
 pub(crate) fn key_len(letters: &CaseMapper, name: &str) -> usize
-    ensures { result ≡ length (name_key (letters_of letters.now) (chars name.now)) }
+    ensures { result ≡ length (name_key (case_table_of letters.now) (chars name.now)) }
 {
     let mut units = 0;
     for ch in name.chars() {
@@ -55,8 +55,8 @@ pub(crate) fn rank(ch: char) -> u32
 // The order of two names' keys, unit by unit.
 fn compare_units(letters: &CaseMapper, one: &str, other: &str) -> Ordering
     ensures { result
-        ≡ slice_cmp nat_cmp (name_key (letters_of letters.now) (chars one.now))
-        (name_key (letters_of letters.now) (chars other.now)) }
+        ≡ slice_cmp nat_cmp (name_key (case_table_of letters.now) (chars one.now))
+        (name_key (case_table_of letters.now) (chars other.now)) }
 {
     let ranks = one.chars().map(|ch| rank(letters.letter(ch)));
     ranks.cmp(other.chars().map(|ch| rank(letters.letter(ch))))
@@ -65,7 +65,7 @@ fn compare_units(letters: &CaseMapper, one: &str, other: &str) -> Ordering
 /// The order of two names among a storage's children: that of their keys. A key of fewer units comes first, and keys of as
 /// many are compared unit by unit ([MS-CFB] 2.6.4). It takes no memory.
 pub fn compare_names(letters: &CaseMapper, one: &str, other: &str) -> Ordering
-    ensures { result ≡ name_cmp (letters_of letters.now) (chars one.now) (chars other.now) }
+    ensures { result ≡ name_cmp (case_table_of letters.now) (chars one.now) (chars other.now) }
 {
     match key_len(letters, one).cmp(&key_len(letters, other)) {
         Ordering::Equal => compare_units(letters, one, other),
@@ -84,7 +84,7 @@ fn is_forbidden(ch: char) -> bool
 /// `InvalidInput`. It takes no memory.
 pub fn validate_name(name: &str) -> Result<(), Error>
     ensures valid { IsOk result ↔ IsTrue (is_name (chars name.now)) }
-    ensures error { IfErr result (λ e. e ≡ InvalidInput) }
+    ensures errors { IfErr result (λ e. e ≡ InvalidInput) }
 {
     let mut units = 0;
     for ch in name.chars() {

@@ -26,7 +26,7 @@ fn is_back(part: &str) -> bool
 pub fn name_chain_from_path(alloc: Global, path: &str) -> Result<Vec<&str>, Error>
     ensures names { IfOk result (λ names. path_names path.now
         ≡ Some (map (λ name. name.now) names.items)) }
-    ensures error { IfErr result (λ e. (e ≡ Memory)
+    ensures errors { IfErr result (λ e. (e ≡ Memory)
         ⊎ ((e ≡ InvalidInput) × (path_names path.now ≡ None))) }
 {
     let mut names = Vec::new(alloc);
@@ -49,7 +49,7 @@ pub fn name_chain_from_path(alloc: Global, path: &str) -> Result<Vec<&str>, Erro
 pub fn path_from_name_chain(alloc: Global, names: &[&str]) -> Result<String, Error>
     ensures path { IfOk result (λ path. string_bytes path
         ≡ path_text (map (λ name. name.now) names.now)) }
-    ensures error { IfErr result (λ e. e ≡ Memory) }
+    ensures errors { IfErr result (λ e. e ≡ Memory) }
 {
     if names.is_empty() {
         return Ok(String::from_str(alloc, "/")?);

@@ -3,5 +3,5 @@ pub mod Request
 pub mod Commands
 pub mod Built
 pub mod Nested
-pub mod Said
+pub mod RequestsOf
 pub mod Guards

@@ -6,10 +6,10 @@ ghost use Rattle.serde_json.specs.View.{items_view, view};
 ghost use Rattle.msi_columns.specs.declared.column.ColumnType.TheVariants.{Str};
 ghost use Rattle.msi_columns.specs.Column.{as_key, as_localizable, but_null, from_to, of_category, refers_to};
 ghost use Rattle.msi_texts.specs.Category.{category_named};
-ghost use Rattle.msi_columns.specs.Held.{built, column_of, columns_of, Builds};
+ghost use Rattle.msi_columns.specs.Held.{built, column_of, columns_of, BuildsColumn};
 ghost use Rattle.command_file.specs.Built.{changed_by, referred, choices_in, foreign_in, category_in, range_in};
 ghost use Rattle.command_file.specs.Commands.{column_from, column_in, flag_in, is_text_column, keys_of_column, kind_in};
-ghost use Rattle.json_parts.specs.Reads.{Gives};
+ghost use Rattle.json_parts.specs.Reads.{ReturnsOrInvalidInput};
 ghost use Rattle.json_parts.specs.Values.{all_in, at_key, list_in, only_keys, whole_in};
 
 use cfb_medium::Error;
@@ -24,7 +24,7 @@ use std::alloc::Global;
 
 // Columns, in order.
 pub(crate) fn columns_of(alloc: Global, json: &Json) -> Result<Vec<Column>, Error>
-    ensures { Gives (λ columns. columns_of columns.items) result
+    ensures { ReturnsOrInvalidInput (λ columns. columns_of columns.items) result
         (list_in column_in (view json.now)) }
 {
     let list = list_of(json)?;
@@ -32,7 +32,7 @@ pub(crate) fn columns_of(alloc: Global, json: &Json) -> Result<Vec<Column>, Erro
 }
 
 fn each_column(alloc: Global, list: &[Json]) -> Result<Vec<Column>, Error>
-    ensures { Gives (λ columns. columns_of columns.items) result
+    ensures { ReturnsOrInvalidInput (λ columns. columns_of columns.items) result
         (all_in column_in (items_view list.now)) }
 {
     let mut columns = Vec::new(alloc);
@@ -43,7 +43,7 @@ fn each_column(alloc: Global, list: &[Json]) -> Result<Vec<Column>, Error>
 }
 
 fn column_of(alloc: Global, json: &Json) -> Result<Column, Error>
-    ensures { Gives column_of result (column_in (view json.now)) }
+    ensures { ReturnsOrInvalidInput column_of result (column_in (view json.now)) }
 {
     if has_column_keys(json) {
         column_from(alloc, json)
@@ -103,7 +103,7 @@ fn is_text(json: &Json) -> bool
 
 // The column, whatever other keys stand there.
 fn column_from(alloc: Global, json: &Json) -> Result<Column, Error>
-    ensures { Gives column_of result (column_from (view json.now)) }
+    ensures { ReturnsOrInvalidInput column_of result (column_from (view json.now)) }
 {
     let name = text_at(json, "name")?;
     let kind = kind_of(json)?;
@@ -123,7 +123,7 @@ fn column_from(alloc: Global, json: &Json) -> Result<Column, Error>
 
 // The type; a text has a length.
 fn kind_of(json: &Json) -> Result<ColumnType, Error>
-    ensures { Gives (λ kind. kind) result (kind_in (view json.now)) }
+    ensures { ReturnsOrInvalidInput (λ kind. kind) result (kind_in (view json.now)) }
 {
     match text_at(json, "type")? {
         "int16" => Ok(ColumnType::Int16),
@@ -136,7 +136,7 @@ fn kind_of(json: &Json) -> Result<ColumnType, Error>
 
 // A text of so many characters.
 fn text_kind_of(json: &Json) -> Result<ColumnType, Error>
-    ensures { Gives (λ kind. kind) result
+    ensures { ReturnsOrInvalidInput (λ kind. kind) result
         (option_map Str (at_key (codes "len") (whole_in (2 ^ 64)) (view json.now))) }
 {
     let len = whole_of(member(json, "len")?)?;
@@ -145,7 +145,7 @@ fn text_kind_of(json: &Json) -> Result<ColumnType, Error>
 
 // The word true, or nothing.
 fn flag_at(json: &Json, key: &str) -> Result<bool, Error>
-    ensures { Gives (λ flag. flag) result (flag_in key.now (view json.now)) }
+    ensures { ReturnsOrInvalidInput (λ flag. flag) result (flag_in key.now (view json.now)) }
 {
     match json.get(key) {
         None => Ok(false),
@@ -156,7 +156,7 @@ fn flag_at(json: &Json, key: &str) -> Result<bool, Error>
 
 // The least and the greatest number, where they are told.
 fn range_of(json: &Json) -> Result<Option<(i32, i32)>, Error>
-    ensures { Gives (λ range. range) result (range_in (view json.now)) }
+    ensures { ReturnsOrInvalidInput (λ range. range) result (range_in (view json.now)) }
 {
     let Some(found) = json.get("range") else {
         return Ok(None);
@@ -167,7 +167,8 @@ fn range_of(json: &Json) -> Result<Option<(i32, i32)>, Error>
 
 // The table and the column that it refers to, where they are told.
 fn foreign_of(json: &Json) -> Result<Option<(&str, i32)>, Error>
-    ensures { Gives (λ foreign. option_map (λ key. (key.0.now, key.1)) foreign) result
+    ensures { ReturnsOrInvalidInput
+        (λ foreign. option_map (λ key. (key.0.now, key.1)) foreign) result
         (foreign_in (view json.now)) }
 {
     let Some(found) = json.get("foreign") else {
@@ -179,7 +180,7 @@ fn foreign_of(json: &Json) -> Result<Option<(&str, i32)>, Error>
 
 // The category, where it is told.
 fn category_of(json: &Json) -> Result<Option<Category>, Error>
-    ensures { Gives (λ category. category) result (category_in (view json.now)) }
+    ensures { ReturnsOrInvalidInput (λ category. category) result (category_in (view json.now)) }
 {
     let Some(found) = json.get("category") else {
         return Ok(None);
@@ -201,7 +202,7 @@ fn named_category(name: &str) -> Option<Category>
 
 // The texts that it takes alone; none where it takes all.
 fn choices_of<'a>(alloc: Global, json: &'a Json) -> Result<Vec<&'a str>, Error>
-    ensures { Gives (λ texts. map (λ text. text.now) texts.items) result
+    ensures { ReturnsOrInvalidInput (λ texts. map (λ text. text.now) texts.items) result
         (choices_in (view json.now)) }
 {
     match json.get("enum") {
@@ -211,7 +212,7 @@ fn choices_of<'a>(alloc: Global, json: &'a Json) -> Result<Vec<&'a str>, Error>
 }
 
 fn with_key(builder: ColumnBuilder, is_key: bool) -> ColumnBuilder
-    ensures { Builds result (λ column. if is_key then as_key column else column) builder }
+    ensures { BuildsColumn result (λ column. if is_key then as_key column else column) builder }
 {
     if is_key {
         builder.primary_key()
@@ -221,7 +222,8 @@ fn with_key(builder: ColumnBuilder, is_key: bool) -> ColumnBuilder
 }
 
 fn with_null(builder: ColumnBuilder, is_nullable: bool) -> ColumnBuilder
-    ensures { Builds result (λ column. if is_nullable then but_null column else column) builder }
+    ensures { BuildsColumn result
+        (λ column. if is_nullable then but_null column else column) builder }
 {
     if is_nullable {
         builder.nullable()
@@ -231,7 +233,8 @@ fn with_null(builder: ColumnBuilder, is_nullable: bool) -> ColumnBuilder
 }
 
 fn with_localizable(builder: ColumnBuilder, is_localizable: bool) -> ColumnBuilder
-    ensures { Builds result (λ column. if is_localizable then as_localizable column else column)
+    ensures { BuildsColumn result
+        (λ column. if is_localizable then as_localizable column else column)
         builder }
 {
     if is_localizable {
@@ -242,7 +245,7 @@ fn with_localizable(builder: ColumnBuilder, is_localizable: bool) -> ColumnBuild
 }
 
 fn with_range(builder: ColumnBuilder, range: Option<(i32, i32)>) -> ColumnBuilder
-    ensures { Builds result (changed_by range (λ r. from_to r.0 r.1)) builder }
+    ensures { BuildsColumn result (changed_by range (λ r. from_to r.0 r.1)) builder }
 {
     match range {
         Some((min, max)) => builder.range(min, max),
@@ -255,8 +258,8 @@ fn with_foreign(
     builder: ColumnBuilder,
     foreign: Option<(&str, i32)>,
 ) -> Result<ColumnBuilder, Error>
-    ensures ok { IfOk result (λ made. Builds made (referred foreign.entry) builder) }
-    ensures err { IfErr result (λ e. e ≡ Memory) }
+    ensures ok { IfOk result (λ made. BuildsColumn made (referred foreign.entry) builder) }
+    ensures errors { IfErr result (λ e. e ≡ Memory) }
 {
     match foreign {
         Some((table, column)) => builder.foreign_key(alloc, table, column),
@@ -265,7 +268,7 @@ fn with_foreign(
 }
 
 fn with_category(builder: ColumnBuilder, category: Option<Category>) -> ColumnBuilder
-    ensures { Builds result (changed_by category of_category) builder }
+    ensures { BuildsColumn result (changed_by category of_category) builder }
 {
     match category {
         Some(category) => builder.category(category),

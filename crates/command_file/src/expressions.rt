@@ -5,7 +5,7 @@ ghost use Rattle.msi_expr.specs.Conditions.{condition_of};
 ghost use Rattle.msi_expr.specs.Formula.{column, formula_of};
 ghost use Rattle.command_file.specs.Expressions.{applied, condition_in, formula_in};
 ghost use Rattle.command_file.specs.Nested.{operation_in};
-ghost use Rattle.json_parts.specs.Reads.{Gives};
+ghost use Rattle.json_parts.specs.Reads.{ReturnsOrInvalidInput};
 ghost use Rattle.json_parts.specs.Values.{all_in, at_key, list_in, text_at};
 
 use cfb_medium::Error;
@@ -17,7 +17,7 @@ use std::alloc::Global;
 // An expression.
 #[cycle(expressions)]
 fn expression_of(alloc: Global, json: &Json) -> Result<Expr, Error>
-    ensures { Gives formula_of result (formula_in (view json.now)) }
+    ensures { ReturnsOrInvalidInput formula_of result (formula_in (view json.now)) }
 {
     match json {
         Json::Null => Ok(Expr::null()),
@@ -39,7 +39,8 @@ fn expression_of(alloc: Global, json: &Json) -> Result<Expr, Error>
 
 // The value of a column.
 fn column_of(alloc: Global, json: &Json) -> Result<Expr, Error>
-    ensures { Gives formula_of result (option_map column (text_at (codes "col") (view json.now))) }
+    ensures { ReturnsOrInvalidInput formula_of result
+        (option_map column (text_at (codes "col") (view json.now))) }
 {
     let name = text_at(json, "col")?;
     Expr::col(alloc, name)
@@ -48,7 +49,7 @@ fn column_of(alloc: Global, json: &Json) -> Result<Expr, Error>
 // An operator on its operands.
 #[cycle(expressions)]
 fn operation_of(alloc: Global, json: &Json) -> Result<Expr, Error>
-    ensures { Gives formula_of result (operation_in (view json.now)) }
+    ensures { ReturnsOrInvalidInput formula_of result (operation_in (view json.now)) }
 {
     let op = text_at(json, "op")?;
     let args = operands_of(alloc, json)?;
@@ -58,7 +59,7 @@ fn operation_of(alloc: Global, json: &Json) -> Result<Expr, Error>
 // The operands.
 #[cycle(expressions)]
 fn operands_of(alloc: Global, json: &Json) -> Result<Vec<Expr>, Error>
-    ensures { Gives (λ args. map formula_of args.items) result
+    ensures { ReturnsOrInvalidInput (λ args. map formula_of args.items) result
         (at_key (codes "args") (list_in formula_in) (view json.now)) }
 {
     let list = list_of(member(json, "args")?)?;
@@ -68,7 +69,7 @@ fn operands_of(alloc: Global, json: &Json) -> Result<Vec<Expr>, Error>
 // Each expression of a list.
 #[cycle(expressions)]
 fn expressions_of(alloc: Global, list: &[Json]) -> Result<Vec<Expr>, Error>
-    ensures { Gives (λ args. map formula_of args.items) result
+    ensures { ReturnsOrInvalidInput (λ args. map formula_of args.items) result
         (all_in formula_in (items_view list.now)) }
 {
     let mut args = Vec::new(alloc);
@@ -80,7 +81,7 @@ fn expressions_of(alloc: Global, list: &[Json]) -> Result<Vec<Expr>, Error>
 
 // An operator on as many expressions as it takes.
 fn operator_on(alloc: Global, op: &str, args: Vec<Expr>) -> Result<Expr, Error>
-    ensures { Gives formula_of result (applied op.now (map formula_of args.items)) }
+    ensures { ReturnsOrInvalidInput formula_of result (applied op.now (map formula_of args.items)) }
 {
     let mut args = args.into_iter();
     let Some(first) = args.next() else {
@@ -97,7 +98,7 @@ fn operator_on(alloc: Global, op: &str, args: Vec<Expr>) -> Result<Expr, Error>
 
 // An operator before an expression.
 fn sign_applied(alloc: Global, op: &str, arg: Expr) -> Result<Expr, Error>
-    ensures { Gives formula_of result (applied op.now (formula_of arg ∷ [])) }
+    ensures { ReturnsOrInvalidInput formula_of result (applied op.now (formula_of arg ∷ [])) }
 {
     match op {
         "not" => arg.not(alloc),
@@ -109,7 +110,8 @@ fn sign_applied(alloc: Global, op: &str, arg: Expr) -> Result<Expr, Error>
 
 // An operator between two expressions.
 fn infix_applied(alloc: Global, op: &str, left: Expr, right: Expr) -> Result<Expr, Error>
-    ensures { Gives formula_of result (applied op.now (formula_of left ∷ formula_of right ∷ [])) }
+    ensures { ReturnsOrInvalidInput formula_of result
+        (applied op.now (formula_of left ∷ formula_of right ∷ [])) }
 {
     match op {
         "eq" => left.eq(alloc, right),
@@ -135,7 +137,7 @@ fn infix_applied(alloc: Global, op: &str, left: Expr, right: Expr) -> Result<Exp
 
 // The expression of a key.
 pub(crate) fn expression_at(alloc: Global, json: &Json, key: &str) -> Result<Expr, Error>
-    ensures { Gives formula_of result (at_key key.now formula_in (view json.now)) }
+    ensures { ReturnsOrInvalidInput formula_of result (at_key key.now formula_in (view json.now)) }
 {
     let found = member(json, key)?;
     expression_of(alloc, found)
@@ -143,7 +145,7 @@ pub(crate) fn expression_at(alloc: Global, json: &Json, key: &str) -> Result<Exp
 
 // A condition, where there is one.
 pub(crate) fn condition_of(alloc: Global, json: &Json) -> Result<Option<Expr>, Error>
-    ensures { Gives condition_of result (condition_in (view json.now)) }
+    ensures { ReturnsOrInvalidInput condition_of result (condition_in (view json.now)) }
 {
     match json.get("where") {
         Some(found) => Ok(Some(expression_of(alloc, found)?)),

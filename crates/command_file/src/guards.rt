@@ -1,6 +1,6 @@
 //! Changes of all rows, or of none, that a slip of the pen makes.
 ghost use Rattle.command_file.specs.Guards.{is_no_answer, is_slip, slips};
-ghost use Rattle.command_file.specs.Said.{said};
+ghost use Rattle.command_file.specs.RequestsOf.{request_of};
 ghost use Rattle.msi_expr.specs.Formula.{formula_of};
 ghost use Rattle.msi_values.specs.Datum.{datum_of};
 ghost use Rattle.std.specs.Prelude.{◌≡◌, option_map, position};
@@ -12,14 +12,14 @@ use msi_values::Value;
 /// Where among commands the first update or delete stands whose condition is a text, or a number other than 0 and 1: it would hold of all
 /// rows, and the one who wrote it meant some. It is counted from 0.
 pub fn slip_in(commands: &[Command]) -> Option<usize>
-    ensures { result ≡ position (λ command. slips (said command)) commands.now }
+    ensures { result ≡ position (λ command. slips (request_of command)) commands.now }
 {
     commands.iter().position(slips)
 }
 
 // Whether a command is such a one.
 fn slips(command: &Command) -> bool
-    ensures { result ≡ slips (said command.now) }
+    ensures { result ≡ slips (request_of command.now) }
 {
     match command {
         Command::Update(update) => is_slip(update.condition()),

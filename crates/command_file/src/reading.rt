@@ -9,9 +9,9 @@ ghost use Rattle.serde_json.specs.Find.{as_object, as_str};
 ghost use Rattle.msi_values.specs.Datum.{data_of, datum_of};
 ghost use Rattle.command_file.specs.Commands.{alone, command_in, commands_in, create_in, delete_in, edit_in, insert_in, of_text, page_in, update_in, with_keys, write_in};
 ghost use Rattle.command_file.specs.Expressions.{select_in};
-ghost use Rattle.json_parts.specs.Reads.{Gives};
+ghost use Rattle.json_parts.specs.Reads.{ReturnsOrInvalidInput};
 ghost use Rattle.command_file.specs.Request.{Request, insert, select, set_codepage, set_summary};
-ghost use Rattle.command_file.specs.Said.{said};
+ghost use Rattle.command_file.specs.RequestsOf.{request_of};
 ghost use Rattle.json_parts.specs.Values.{all_in, at_key, hex_bytes, pair_in, value_in};
 
 use crate::Command;
@@ -32,11 +32,11 @@ use std::alloc::Global;
 /// range; `Memory` where there is no room.
 pub fn read_commands(alloc: Global, text: &str) -> Result<Vec<Command>, Error>
     ensures commands { IfOk result (λ commands. option_and_then commands_in (read text.now)
-        ≡ Some (map said commands.items)) }
+        ≡ Some (map request_of commands.items)) }
     ensures data { IfErr result (λ e. e ≡ InvalidData → read text.now ≡ None) }
     ensures input { IfErr result (λ e. e ≡ InvalidInput
         → option_map commands_in (read text.now) ≡ Some None) }
-    ensures error { IfErr result (λ e. (e ≡ InvalidData) ⊎ ((e ≡ InvalidInput) ⊎ (e ≡ Memory))) }
+    ensures errors { IfErr result (λ e. (e ≡ InvalidData) ⊎ ((e ≡ InvalidInput) ⊎ (e ≡ Memory))) }
 {
     let json = match Json::from_str(alloc, text) {
         Ok(json) => json,
@@ -52,14 +52,15 @@ pub fn read_commands(alloc: Global, text: &str) -> Result<Vec<Command>, Error>
 }
 
 fn commands_of(alloc: Global, json: &Json) -> Result<Vec<Command>, Error>
-    ensures { Gives (λ commands. map said commands.items) result (commands_in (view json.now)) }
+    ensures { ReturnsOrInvalidInput (λ commands. map request_of commands.items) result
+        (commands_in (view json.now)) }
 {
     let list = list_of(json)?;
     each_command(alloc, list)
 }
 
 fn each_command(alloc: Global, list: &[Json]) -> Result<Vec<Command>, Error>
-    ensures { Gives (λ commands. map said commands.items) result
+    ensures { ReturnsOrInvalidInput (λ commands. map request_of commands.items) result
         (all_in command_in (items_view list.now)) }
 {
     let mut commands = Vec::new(alloc);
@@ -71,7 +72,7 @@ fn each_command(alloc: Global, list: &[Json]) -> Result<Vec<Command>, Error>
 
 #[tactic(auto, unfolding(crate::specs::Commands::command_in))]
 pub(crate) fn command_of(alloc: Global, json: &Json) -> Result<Command, Error>
-    ensures { Gives said result (command_in (view json.now)) }
+    ensures { ReturnsOrInvalidInput request_of result (command_in (view json.now)) }
 {
     match text_at(json, "op")? {
         "create_table" => create_of(alloc, json),
@@ -101,7 +102,7 @@ pub(crate) fn command_of(alloc: Global, json: &Json) -> Result<Command, Error>
 
 // A command without keys.
 fn keyless_command(json: &Json, command: Command) -> Result<Command, Error>
-    ensures { Gives said result (alone (said command) (view json.now)) }
+    ensures { ReturnsOrInvalidInput request_of result (alone (request_of command) (view json.now)) }
 {
     if has_only(json, &["op"]) {
         Ok(command)
@@ -112,7 +113,8 @@ fn keyless_command(json: &Json, command: Command) -> Result<Command, Error>
 
 // The text of the one key.
 fn text_of_key(alloc: Global, json: &Json, key: &str) -> Result<String, Error>
-    ensures { (ask : List ℕ → Request) → Gives (λ text. ask (string_bytes text)) result
+    ensures { (ask : List ℕ → Request)
+        → ReturnsOrInvalidInput (λ text. ask (string_bytes text)) result
         (of_text key.now ask (view json.now)) }
 {
     if has_only(json, &["op", key]) {
@@ -124,7 +126,7 @@ fn text_of_key(alloc: Global, json: &Json, key: &str) -> Result<String, Error>
 
 // A table and its columns.
 fn create_of(alloc: Global, json: &Json) -> Result<Command, Error>
-    ensures { Gives said result
+    ensures { ReturnsOrInvalidInput request_of result
         (with_keys (codes "table" ∷ codes "columns" ∷ []) create_in (view json.now)) }
 {
     if !has_only(json, &["op", "table", "columns"]) {
@@ -141,7 +143,7 @@ fn create_of(alloc: Global, json: &Json) -> Result<Command, Error>
 
 // A table and rows for it.
 fn insert_of(alloc: Global, json: &Json) -> Result<Command, Error>
-    ensures { Gives said result
+    ensures { ReturnsOrInvalidInput request_of result
         (with_keys (codes "table" ∷ codes "rows" ∷ []) insert_in (view json.now)) }
 {
     if !has_only(json, &["op", "table", "rows"]) {
@@ -154,7 +156,7 @@ fn insert_of(alloc: Global, json: &Json) -> Result<Command, Error>
 
 // These rows for the table of this name.
 fn inserted_rows(alloc: Global, table: &str, rows: Vec<Vec<Value>>) -> Result<Command, Error>
-    ensures { Gives said result (Some
+    ensures { ReturnsOrInvalidInput request_of result (Some
         (insert table.now (map (λ row. data_of row.items) rows.items))) }
 {
     match Insert::into(alloc, table)?.rows(rows) {
@@ -165,7 +167,7 @@ fn inserted_rows(alloc: Global, table: &str, rows: Vec<Vec<Value>>) -> Result<Co
 
 // A table, what is set, and a condition.
 fn update_of(alloc: Global, json: &Json) -> Result<Command, Error>
-    ensures { Gives said result (with_keys
+    ensures { ReturnsOrInvalidInput request_of result (with_keys
         (codes "table" ∷ codes "set" ∷ codes "where" ∷ []) update_in (view json.now)) }
 {
     if !has_only(json, &["op", "table", "set", "where"]) {
@@ -183,7 +185,8 @@ fn update_of(alloc: Global, json: &Json) -> Result<Command, Error>
 fn with_sets(alloc: Global, update: Update, list: &[Json]) -> Result<Update, Error>
     ensures name { IfOk result (λ made. update_name made ≡ update_name update) }
     ensures condition { IfOk result (λ made. update_condition made ≡ update_condition update) }
-    ensures sets { Gives update_sets result (option_map (λ sets. update_sets update ++ sets)
+    ensures sets { ReturnsOrInvalidInput update_sets result
+        (option_map (λ sets. update_sets update ++ sets)
         (all_in (pair_in as_str value_in) (items_view list.now))) }
 {
     let mut update = update;
@@ -196,7 +199,7 @@ fn with_sets(alloc: Global, update: Update, list: &[Json]) -> Result<Update, Err
 
 // A column and its value.
 pub(crate) fn set_of<'a>(alloc: Global, json: &'a Json) -> Result<(&'a str, Value), Error>
-    ensures { Gives (λ set. (set.0.now, datum_of set.1)) result
+    ensures { ReturnsOrInvalidInput (λ set. (set.0.now, datum_of set.1)) result
         (pair_in as_str value_in (view json.now)) }
 {
     let (column, value) = two_of(json)?;
@@ -209,7 +212,7 @@ pub(crate) fn set_of<'a>(alloc: Global, json: &'a Json) -> Result<(&'a str, Valu
 
 // A table and a condition.
 fn delete_of(alloc: Global, json: &Json) -> Result<Command, Error>
-    ensures { Gives said result
+    ensures { ReturnsOrInvalidInput request_of result
         (with_keys (codes "table" ∷ codes "where" ∷ []) delete_in (view json.now)) }
 {
     if !has_only(json, &["op", "table", "where"]) {
@@ -224,7 +227,7 @@ fn delete_of(alloc: Global, json: &Json) -> Result<Command, Error>
 
 // A select.
 fn query_of(alloc: Global, json: &Json) -> Result<Command, Error>
-    ensures { Gives said result
+    ensures { ReturnsOrInvalidInput request_of result
         (with_keys (codes "from" ∷ codes "columns" ∷ codes "where" ∷ [])
         (λ d. option_map select (option_and_then select_in (as_object d))) (view json.now)) }
 {
@@ -236,7 +239,7 @@ fn query_of(alloc: Global, json: &Json) -> Result<Command, Error>
 
 // A name and bytes.
 fn write_of(alloc: Global, json: &Json) -> Result<Command, Error>
-    ensures { Gives said result
+    ensures { ReturnsOrInvalidInput request_of result
         (with_keys (codes "name" ∷ codes "hex" ∷ []) write_in (view json.now)) }
 {
     if !has_only(json, &["op", "name", "hex"]) {
@@ -253,7 +256,7 @@ fn write_of(alloc: Global, json: &Json) -> Result<Command, Error>
 
 // Bytes from pairs of hexadecimal digits.
 pub(crate) fn bytes_of(alloc: Global, text: &str) -> Result<Vec<u8>, Error>
-    ensures { Gives (λ bytes. bytes.items) result (hex_bytes text.now) }
+    ensures { ReturnsOrInvalidInput (λ bytes. bytes.items) result (hex_bytes text.now) }
 {
     match hex::decode(alloc, text) {
         Ok(bytes) => Ok(bytes),
@@ -273,7 +276,8 @@ fn refusal(error: FromHexError) -> Error
 
 // A change of the summary.
 fn set_summary_of(alloc: Global, json: &Json) -> Result<Command, Error>
-    ensures { Gives said result (with_keys (codes "field" ∷ codes "value" ∷ [])
+    ensures { ReturnsOrInvalidInput request_of result
+        (with_keys (codes "field" ∷ codes "value" ∷ [])
         (λ d. option_map set_summary (edit_in d)) (view json.now)) }
 {
     if !has_only(json, &["op", "field", "value"]) {
@@ -284,7 +288,7 @@ fn set_summary_of(alloc: Global, json: &Json) -> Result<Command, Error>
 
 // The database's code page.
 fn codepage_of(json: &Json) -> Result<Command, Error>
-    ensures { Gives said result (with_keys (codes "id" ∷ [])
+    ensures { ReturnsOrInvalidInput request_of result (with_keys (codes "id" ∷ [])
         (λ d. option_map set_codepage (at_key (codes "id") page_in d)) (view json.now)) }
 {
     if !has_only(json, &["op", "id"]) {

@@ -7,7 +7,7 @@ ghost use Rattle.msi_query.specs.Query.{Query, inner_join, left_join};
 ghost use Rattle.msi_query.specs.Said.{query_of};
 ghost use Rattle.command_file.specs.Expressions.{columns_in, joined, select_in, side_of, source_in};
 ghost use Rattle.command_file.specs.Nested.{all_of, join_in, select_at};
-ghost use Rattle.json_parts.specs.Reads.{Gives};
+ghost use Rattle.json_parts.specs.Reads.{ReturnsOrInvalidInput};
 ghost use Rattle.json_parts.specs.Values.{at_key, text_at};
 
 use crate::expressions::{condition_of, expression_at};
@@ -20,14 +20,15 @@ use std::alloc::Global;
 
 // A select, whatever other keys stand there.
 pub(crate) fn select_of(alloc: Global, json: &Json) -> Result<Select, Error>
-    ensures { Gives query_of result (option_and_then select_in (as_object (view json.now))) }
+    ensures { ReturnsOrInvalidInput query_of result
+        (option_and_then select_in (as_object (view json.now))) }
 {
     select_at(alloc, json)
 }
 
 #[cycle(selects)]
 fn select_at(alloc: Global, json: &Json) -> Result<Select, Error>
-    ensures { Gives query_of result (select_at (view json.now)) }
+    ensures { ReturnsOrInvalidInput query_of result (select_at (view json.now)) }
 {
     let names = names_of(alloc, json)?;
     let select = source_at(alloc, json)?.columns(alloc, &names)?;
@@ -40,7 +41,7 @@ fn select_at(alloc: Global, json: &Json) -> Result<Select, Error>
 
 // The columns that are asked for; none where all are.
 fn names_of<'a>(alloc: Global, json: &'a Json) -> Result<Vec<&'a str>, Error>
-    ensures { Gives (λ names. map (λ name. name.now) names.items) result
+    ensures { ReturnsOrInvalidInput (λ names. map (λ name. name.now) names.items) result
         (columns_in (view json.now)) }
 {
     match json.get("columns") {
@@ -52,7 +53,7 @@ fn names_of<'a>(alloc: Global, json: &'a Json) -> Result<Vec<&'a str>, Error>
 // All of the source.
 #[cycle(selects)]
 fn source_at(alloc: Global, json: &Json) -> Result<Select, Error>
-    ensures { Gives query_of result
+    ensures { ReturnsOrInvalidInput query_of result
         (option_map all_of (at_key (codes "from") source_in (view json.now))) }
 {
     let found = member(json, "from")?;
@@ -61,7 +62,8 @@ fn source_at(alloc: Global, json: &Json) -> Result<Select, Error>
 
 #[cycle(selects)]
 fn source_of(alloc: Global, json: &Json) -> Result<Select, Error>
-    ensures { Gives query_of result (option_map all_of (source_in (view json.now))) }
+    ensures { ReturnsOrInvalidInput query_of result
+        (option_map all_of (source_in (view json.now))) }
 {
     match json {
         Json::String(name) => Select::table(alloc, name.as_str()),
@@ -78,7 +80,7 @@ fn source_of(alloc: Global, json: &Json) -> Result<Select, Error>
 // All of two selects joined.
 #[cycle(selects)]
 fn join_of(alloc: Global, json: &Json) -> Result<Select, Error>
-    ensures { Gives query_of result (option_map all_of (join_in (view json.now))) }
+    ensures { ReturnsOrInvalidInput query_of result (option_map all_of (join_in (view json.now))) }
 {
     let Some(is_left) = is_left_join(json) else {
         return Err(Error::InvalidInput);
@@ -116,7 +118,7 @@ fn is_left(kind: &str) -> Option<bool>
 // A side of a join.
 #[cycle(selects)]
 fn side_at(alloc: Global, json: &Json, key: &str) -> Result<Select, Error>
-    ensures { Gives query_of result (at_key key.now side_of (view json.now)) }
+    ensures { ReturnsOrInvalidInput query_of result (at_key key.now side_of (view json.now)) }
 {
     let found = member(json, key)?;
     side_of(alloc, found)
@@ -124,7 +126,7 @@ fn side_at(alloc: Global, json: &Json, key: &str) -> Result<Select, Error>
 
 #[cycle(selects)]
 fn side_of(alloc: Global, json: &Json) -> Result<Select, Error>
-    ensures { Gives query_of result (side_of (view json.now)) }
+    ensures { ReturnsOrInvalidInput query_of result (side_of (view json.now)) }
 {
     if has_only(json, &["from", "columns", "where"]) {
         select_at(alloc, json)
@@ -141,7 +143,7 @@ fn joined_select(
     right: Select,
     on: Expr,
 ) -> Result<Select, Error>
-    ensures { Gives query_of result (Some (all_of (if is_left
+    ensures { ReturnsOrInvalidInput query_of result (Some (all_of (if is_left
         then left_join (query_of left) (query_of right) (formula_of on)
         else inner_join (query_of left) (query_of right) (formula_of on)))) }
 {

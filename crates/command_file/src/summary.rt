@@ -5,8 +5,8 @@ ghost use Rattle.cfb_medium.specs.Times.{units_of};
 ghost use Rattle.serde_json.specs.Find.{as_str};
 ghost use Rattle.serde_json.specs.View.{view};
 ghost use Rattle.command_file.specs.Commands.{edit_in, page_in, uuid_in};
-ghost use Rattle.json_parts.specs.Reads.{Gives};
-ghost use Rattle.command_file.specs.Said.{edit_said, text_said};
+ghost use Rattle.json_parts.specs.Reads.{ReturnsOrInvalidInput};
+ghost use Rattle.command_file.specs.RequestsOf.{edit_said, text_said};
 ghost use Rattle.json_parts.specs.Values.{int_in, list_in, unless_null, whole_in};
 
 use crate::SummaryEdit;
@@ -20,7 +20,7 @@ use uuid::Uuid;
 // A field and its value, or null that clears it.
 #[tactic(auto, unfolding(crate::specs::Commands::edit_in))]
 pub(crate) fn edit_of(alloc: Global, json: &Json) -> Result<SummaryEdit, Error>
-    ensures { Gives edit_said result (edit_in (view json.now)) }
+    ensures { ReturnsOrInvalidInput edit_said result (edit_in (view json.now)) }
 {
     let field = text_at(json, "field")?;
     let value = member(json, "value")?;
@@ -49,7 +49,7 @@ pub(crate) fn edit_of(alloc: Global, json: &Json) -> Result<SummaryEdit, Error>
 
 // A text, or null.
 fn text(alloc: Global, json: &Json) -> Result<Option<String>, Error>
-    ensures { Gives text_said result (unless_null as_str (view json.now)) }
+    ensures { ReturnsOrInvalidInput text_said result (unless_null as_str (view json.now)) }
 {
     match json {
         Json::Null => Ok(None),
@@ -59,7 +59,8 @@ fn text(alloc: Global, json: &Json) -> Result<Option<String>, Error>
 
 // Texts, or null.
 fn texts(alloc: Global, json: &Json) -> Result<Option<Vec<String>>, Error>
-    ensures { Gives (λ all. option_map (λ texts. map string_bytes texts.items) all) result
+    ensures { ReturnsOrInvalidInput
+        (λ all. option_map (λ texts. map string_bytes texts.items) all) result
         (unless_null (list_in as_str) (view json.now)) }
 {
     match json {
@@ -70,7 +71,7 @@ fn texts(alloc: Global, json: &Json) -> Result<Option<Vec<String>>, Error>
 
 // Languages by their numbers, or null.
 fn languages(alloc: Global, json: &Json) -> Result<Option<Vec<LanguageId>>, Error>
-    ensures { Gives (λ all. option_map (λ languages. languages.items) all) result
+    ensures { ReturnsOrInvalidInput (λ all. option_map (λ languages. languages.items) all) result
         (unless_null (list_in (whole_in (2 ^ 16))) (view json.now)) }
 {
     match json {
@@ -81,7 +82,7 @@ fn languages(alloc: Global, json: &Json) -> Result<Option<Vec<LanguageId>>, Erro
 
 // A number, or null.
 fn number(json: &Json) -> Result<Option<i32>, Error>
-    ensures { Gives (λ number. number) result (unless_null int_in (view json.now)) }
+    ensures { ReturnsOrInvalidInput (λ number. number) result (unless_null int_in (view json.now)) }
 {
     match json {
         Json::Null => Ok(None),
@@ -91,7 +92,7 @@ fn number(json: &Json) -> Result<Option<i32>, Error>
 
 // A moment in units of 100 ns, or null.
 fn moment(json: &Json) -> Result<Option<Timestamp>, Error>
-    ensures { Gives (λ moment. option_map units_of moment) result
+    ensures { ReturnsOrInvalidInput (λ moment. option_map units_of moment) result
         (unless_null (whole_in (2 ^ 64)) (view json.now)) }
 {
     match json {
@@ -102,7 +103,7 @@ fn moment(json: &Json) -> Result<Option<Timestamp>, Error>
 
 // The moment of so many units.
 fn moment_of(units: u64) -> Result<Timestamp, Error>
-    ensures { Gives units_of result (Some units) }
+    ensures { ReturnsOrInvalidInput units_of result (Some units) }
 {
     let bytes = units.to_le_bytes();
     let mut reader: &[u8] = &bytes;
@@ -111,7 +112,7 @@ fn moment_of(units: u64) -> Result<Timestamp, Error>
 
 // An identifier, or null.
 fn uuid(json: &Json) -> Result<Option<Uuid>, Error>
-    ensures { Gives (λ id. option_map (braced_text upper) id) result
+    ensures { ReturnsOrInvalidInput (λ id. option_map (braced_text upper) id) result
         (unless_null uuid_in (view json.now)) }
 {
     match json {
@@ -121,7 +122,7 @@ fn uuid(json: &Json) -> Result<Option<Uuid>, Error>
 }
 
 fn uuid_of(json: &Json) -> Result<Uuid, Error>
-    ensures { Gives (braced_text upper) result (uuid_in (view json.now)) }
+    ensures { ReturnsOrInvalidInput (braced_text upper) result (uuid_in (view json.now)) }
 {
     let text = text_of(json)?;
     read_uuid(text).ok_or(Error::InvalidInput)
@@ -138,7 +139,7 @@ fn read_uuid(text: &str) -> Option<Uuid>
 
 // A code page by its number.
 pub(crate) fn page_of(json: &Json) -> Result<CodePage, Error>
-    ensures { Gives (λ page. page) result (page_in (view json.now)) }
+    ensures { ReturnsOrInvalidInput (λ page. page) result (page_in (view json.now)) }
 {
     CodePage::from_id(integer_of(json)?).ok_or(Error::InvalidInput)
 }

@@ -11,15 +11,15 @@ use Rattle.command_words.specs.declared.line.Log.TheVariants.{At, Beside, Twice}
 use Rattle.command_words.specs.declared.line.Parts.{Parts}
 
 -- what a line says: the word, and each path with the name under which it is given
-abbrev pub said : Line → Text × List (Text × Text)
-said (Create home log) = (codes "create", (codes "PACKAGE", home.now) ∷ [])
-said (Recover home log) = (codes "recover", (codes "PACKAGE", home.now) ∷ [])
-said (Run home log commands quiet) = (codes "run", (codes "PACKAGE", home.now) ∷ [])
-said (Adopt home log source beside validation) = (codes "adopt", (codes "PACKAGE", home.now) ∷ (codes "SOURCE", source.now) ∷ [])
-said (ListNames home log) = (codes "list", (codes "PACKAGE", home.now) ∷ [])
-said (Show file log parts) = (codes "show", (codes "FILE", file.now) ∷ [])
-said (Check file log) = (codes "check", (codes "FILE", file.now) ∷ [])
-said (Export file log folder) = (codes "export", (codes "FILE", file.now) ∷ (codes "FOLDER", folder.now) ∷ [])
+abbrev pub words_of_line : Line → Text × List (Text × Text)
+words_of_line (Create home log) = (codes "create", (codes "PACKAGE", home.now) ∷ [])
+words_of_line (Recover home log) = (codes "recover", (codes "PACKAGE", home.now) ∷ [])
+words_of_line (Run home log commands quiet) = (codes "run", (codes "PACKAGE", home.now) ∷ [])
+words_of_line (Adopt home log source beside validation) = (codes "adopt", (codes "PACKAGE", home.now) ∷ (codes "SOURCE", source.now) ∷ [])
+words_of_line (ListNames home log) = (codes "list", (codes "PACKAGE", home.now) ∷ [])
+words_of_line (Show file log parts) = (codes "show", (codes "FILE", file.now) ∷ [])
+words_of_line (Check file log) = (codes "check", (codes "FILE", file.now) ∷ [])
+words_of_line (Export file log folder) = (codes "export", (codes "FILE", file.now) ∷ (codes "FOLDER", folder.now) ∷ [])
 
 -- these paths were given under these names
 abbrev pub AreIn : List (Text × Text) → List Row → Type 0
@@ -87,7 +87,7 @@ AsksFor (Export file log folder) rows = IsReadLog log (codes "log") rows
 -- the word that was found, with its paths, is what the line says
 abbrev pub SaidIn : Line → Option (Text × List Row) → Type 0
 SaidIn line None = ⊥
-SaidIn line (Some found) = ((said line).0 ≡ found.0) × AreIn (said line).1 found.1 × AsksFor line found.1
+SaidIn line (Some found) = ((words_of_line line).0 ≡ found.0) × AreIn (words_of_line line).1 found.1 × AsksFor line found.1
 
 abbrev pub HasSaid : Line → List Text → Type 0
 HasSaid line words = SaidIn line (subcommand_of msidb words)

@@ -2,7 +2,7 @@
 ghost use Rattle.std.specs.Prelude.{◌≡◌, IfOk, IfErr, IfSome, codes, option_map, map, string_bytes, true};
 ghost use Rattle.clap.specs.Words.{first_of, found_of, kind_of, rows_of, subcommand_rows_of, takes};
 ghost use Rattle.command_words.specs.Words.{msidb};
-ghost use Rattle.command_words.specs.Lines.{said, is_set, named, named_by, AreIn, AreAsked, AsksFor, IsNamedIn, SaidIn, HasSaid};
+ghost use Rattle.command_words.specs.Lines.{words_of_line, is_set, named, named_by, AreIn, AreAsked, AsksFor, IsNamedIn, SaidIn, HasSaid};
 
 use crate::words::matches;
 use clap::error::ErrorKind;
@@ -60,7 +60,7 @@ pub enum Line<'a> {
 /// or for the version, whose text is that. A log that is named twice is no refusal here: the line says so.
 pub fn read_words<'a>(alloc: Global, words: &'a [String]) -> Result<Line<'a>, Error>
     ensures ok { IfOk result (λ line. HasSaid line (map string_bytes words.entry.now)) }
-    ensures err { IfErr result (λ e. takes msidb (map string_bytes words.entry.now) ≡ true
+    ensures after_error { IfErr result (λ e. takes msidb (map string_bytes words.entry.now) ≡ true
         → kind_of e ≡ ErrorKind.OutOfMemory) }
 {
     let found = matches(alloc, words)?;
@@ -78,8 +78,8 @@ fn line_in<'a>(found: &ArgMatches<'a>) -> Option<Line<'a>>
 }
 
 fn line_of<'a>(name: &str, paths: &ArgMatches<'a>) -> Option<Line<'a>>
-    ensures { IfSome result (λ line. ((said line).0 ≡ name.now)
-        × AreIn (said line).1 (rows_of (found_of paths.now))
+    ensures { IfSome result (λ line. ((words_of_line line).0 ≡ name.now)
+        × AreIn (words_of_line line).1 (rows_of (found_of paths.now))
         × AsksFor line (rows_of (found_of paths.now))) }
 {
     match name {
@@ -108,8 +108,8 @@ fn line_of<'a>(name: &str, paths: &ArgMatches<'a>) -> Option<Line<'a>>
 
 // The line of a word that has a package and its log.
 fn line_on_package<'a>(name: &str, paths: &ArgMatches<'a>) -> Option<Line<'a>>
-    ensures { IfSome result (λ line. ((said line).0 ≡ name.now)
-        × AreIn (said line).1 (rows_of (found_of paths.now))
+    ensures { IfSome result (λ line. ((words_of_line line).0 ≡ name.now)
+        × AreIn (words_of_line line).1 (rows_of (found_of paths.now))
         × AsksFor line (rows_of (found_of paths.now))) }
 {
     let package = path(paths, "PACKAGE")?;
@@ -124,8 +124,8 @@ fn line_on_package<'a>(name: &str, paths: &ArgMatches<'a>) -> Option<Line<'a>>
 
 // The line of the word that runs commands.
 fn line_of_run<'a>(paths: &ArgMatches<'a>) -> Option<Line<'a>>
-    ensures { IfSome result (λ line. ((said line).0 ≡ codes "run")
-        × AreIn (said line).1 (rows_of (found_of paths.now))
+    ensures { IfSome result (λ line. ((words_of_line line).0 ≡ codes "run")
+        × AreIn (words_of_line line).1 (rows_of (found_of paths.now))
         × AsksFor line (rows_of (found_of paths.now))) }
 {
     let package = path(paths, "PACKAGE")?;
@@ -145,8 +145,8 @@ fn line_of_run<'a>(paths: &ArgMatches<'a>) -> Option<Line<'a>>
 
 // The line of the word that adopts a package.
 fn line_of_adoption<'a>(paths: &ArgMatches<'a>) -> Option<Line<'a>>
-    ensures { IfSome result (λ line. ((said line).0 ≡ codes "adopt")
-        × AreIn (said line).1 (rows_of (found_of paths.now))
+    ensures { IfSome result (λ line. ((words_of_line line).0 ≡ codes "adopt")
+        × AreIn (words_of_line line).1 (rows_of (found_of paths.now))
         × AsksFor line (rows_of (found_of paths.now))) }
 {
     let package = path(paths, "PACKAGE")?;

@@ -431,7 +431,7 @@ fn definition<'a>(alloc: Global) -> Result<Command<'a>, AllocError>
 // What was found among the words.
 pub fn matches<'a>(alloc: Global, words: &'a [String]) -> Result<ArgMatches<'a>, Error>
     ensures ok { IfOk result (HasMatchesOf msidb (map string_bytes words.entry.now)) }
-    ensures err { IfErr result (λ e. takes msidb (map string_bytes words.entry.now) ≡ true
+    ensures after_error { IfErr result (λ e. takes msidb (map string_bytes words.entry.now) ≡ true
         → kind_of e ≡ ErrorKind.OutOfMemory) }
 {
     definition(alloc)?.try_get_matches_from(words)

@@ -1,5 +1,5 @@
 //! The store's two functions.
-ghost use Rattle.cfb_medium.specs.Stops.{LeavesOnly};
+ghost use Rattle.cfb_medium.specs.Crashes.{CrashLeavesOnly};
 ghost use Rattle.example_store.specs.Number.{counted_up, next_in};
 ghost use Rattle.std.specs.Prelude.{◌≡◌, ◌⊎◌, Some, IfOk, IsTrue, OnOk};
 
@@ -24,9 +24,10 @@ pub fn count_up<M: Medium>(store: &mut M) -> Result<u64, Error>
         → IfOk result (λ number. number ≡ next_in (M.bytes store.old)) }
     ensures published { IsTrue (M.honest store.old)
         → OnOk result (M.has_published store.new (counted_up (M.bytes store.old))) }
-    ensures left { IsTrue (M.honest store.old)
-        → LeavesOnly M.moment M.left_since store.old store.new
-        (λ left. M.may_leave store.old left ⊎ (left ≡ Some (counted_up (M.bytes store.old)))) }
+    ensures crash { IsTrue (M.honest store.old)
+        → CrashLeavesOnly M.moment M.crash_left_since store.old store.new
+        (λ left. M.crash_may_leave store.old left
+        ⊎ (left ≡ Some (counted_up (M.bytes store.old)))) }
 {
     let mut number = [0; 8];
     store.read_at(0, &mut number)?;

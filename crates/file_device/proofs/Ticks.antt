@@ -1,7 +1,7 @@
 -- What a stop may leave after a tick.
 use Rattle.std.proofs.Common.{Bool, IsTrue, ◌∙◌, inl, inr, ⊎_elim, ◌≡◌, ℕ, ◌+◌, ◌≤◌, subst, arith}
 use Rattle.std.proofs.lemmas.Bool.{cases_lt}
-use Rattle.cfb_medium.specs.Stops.{LeavesOnly}
+use Rattle.cfb_medium.specs.Crashes.{CrashLeavesOnly}
 use Rattle.staged.specs.Files.{Files}
 use Rattle.file_device.specs.declared.raw.RawFile.{Ghosts}
 use Rattle.file_device.specs.declared.pair.RawDevice.{RawDevice}
@@ -10,7 +10,7 @@ use Rattle.file_device.specs.Pair.{raw_moment, raw_left, raw_may_leave, raw_left
 module _ {F : Type 0} {g : Ghosts F} where
   -- no tick went by
   pub still_leaves : (old new : RawDevice F g) (P : Files → Type 0) → new.ticks ≡ old.ticks → ((k : ℕ) (left : Files) → raw_left new k left → raw_left old k left) → ((left : Files) → raw_may_leave old left → P left)
-      → LeavesOnly (λ (d : RawDevice F g). raw_moment d) (λ (d : RawDevice F g) moment left. raw_left_since d moment left) old new P
+      → CrashLeavesOnly (λ (d : RawDevice F g). raw_moment d) (λ (d : RawDevice F g) moment left. raw_left_since d moment left) old new P
   still_leaves old new P same past stay = record {
     later = omega arith;
     each = λ x since.
@@ -24,7 +24,7 @@ module _ {F : Type 0} {g : Ghosts F} where
   -- a tick went by
   pub tick_leaves : (old new : RawDevice F g) (P : Files → Type 0) → new.ticks ≡ old.ticks + 1 → ((k : ℕ) (left : Files) → k ≤ old.ticks → raw_left new k left → raw_left old k left)
       → ((left : Files) → raw_left new (old.ticks + 1) left → P left) → ((left : Files) → raw_may_leave old left → P left)
-      → LeavesOnly (λ (d : RawDevice F g). raw_moment d) (λ (d : RawDevice F g) moment left. raw_left_since d moment left) old new P
+      → CrashLeavesOnly (λ (d : RawDevice F g). raw_moment d) (λ (d : RawDevice F g) moment left. raw_left_since d moment left) old new P
   tick_leaves old new P ticks past now stay = record {
     later = omega arith;
     each = λ x since.

@@ -3,5 +3,5 @@ use Rattle.std.specs.Prelude.{◌≡◌, ◌⊎◌}
 use Rattle.cfb_medium.specs.declared.error.Error.{Error}
 use Rattle.cfb_medium.specs.declared.error.Error.TheVariants.{NotFound, Device}
 
-abbrev pub IsOpenRefusal : Error → Type 0
-IsOpenRefusal e = (e ≡ NotFound) ⊎ (e ≡ Device)
+abbrev pub IsDeviceOpenError : Error → Type 0
+IsDeviceOpenError e = (e ≡ NotFound) ⊎ (e ≡ Device)

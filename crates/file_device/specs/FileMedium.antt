@@ -1,7 +1,7 @@
 -- What is said of a medium of one file on disk.
 use Rattle.std.specs.Prelude.{◌≡◌, ◌≤◌, ℕ, Bool, true, false}
 use Rattle.cfb_medium.specs.declared.error.Error.{Error}
-use Rattle.cfb_medium.specs.Calls.{HasCauseSince}
+use Rattle.cfb_medium.specs.Calls.{IsJustifiedSince}
 use Rattle.staged.specs.Counts.{counted_failures}
 use Rattle.file_device.specs.declared.medium.FileMedium.{FileMedium}
 
@@ -14,8 +14,8 @@ abbrev pub MoreFailures : FileMedium → FileMedium → Type 0
 MoreFailures old new = medium_failures old ≤ medium_failures new
 
 -- `Device` is told only where a failure was counted, and `Failed` never
-abbrev pub HasMediumCause : FileMedium → FileMedium → Error → Type 0
-HasMediumCause old new error = HasCauseSince (λ a b. MoreFailures a b) medium_failures (λ _. false) old new error
+abbrev pub IsJustifiedByFile : FileMedium → FileMedium → Error → Type 0
+IsJustifiedByFile old new error = IsJustifiedSince (λ a b. MoreFailures a b) medium_failures (λ _. false) old new error
 
 -- a sync has failed, so what is shown may be missing on the disk
 abbrev pub is_lost : FileMedium → Bool

@@ -1,9 +1,9 @@
 -- What is said of a device of two files of a system.
 use Rattle.std.specs.Prelude.{◌≤◌, ◌&&◌, ℕ, Bool}
-use Rattle.cfb_medium.specs.Stops.{LeavesOnly}
+use Rattle.cfb_medium.specs.Crashes.{CrashLeavesOnly}
 use Rattle.staged.specs.Files.{Files}
 use Rattle.staged.specs.Device.{DeviceRests}
-use Rattle.staged.specs.Stops.{Remembers}
+use Rattle.staged.specs.Crashes.{KeepsCrashHistory}
 use Rattle.staged.specs.Counts.{counted_failures, counted_writes, counted_syncs}
 use Rattle.staged.specs.declared.device.Which.{Which}
 use Rattle.file_device.specs.declared.raw.RawFile.{Ghosts}
@@ -40,5 +40,5 @@ raw_left_since d moment left = (tick : ℕ) × (moment ≤ tick) × (tick ≤ d.
 -- by reads and syncs alone
 pub record RawRests {F : Type 0} {g : Ghosts F} (old new : RawDevice F g) : Type 0 where
   pub keeps : DeviceRests (λ d. raw_honest d) (λ d. raw_content d) (λ d which. raw_writes d which) (λ d. raw_failures d) old new
-  pub leaves : LeavesOnly (λ d. raw_moment d) (λ d moment. raw_left_since d moment) old new (raw_may_leave old)
-  pub remembers : Remembers (λ d. raw_moment d) (λ d moment. raw_left_since d moment) old new
+  pub leaves : CrashLeavesOnly (λ d. raw_moment d) (λ d moment. raw_left_since d moment) old new (raw_may_leave old)
+  pub remembers : KeepsCrashHistory (λ d. raw_moment d) (λ d moment. raw_left_since d moment) old new

@@ -1,7 +1,7 @@
 //! The device of two files on disk, and how it is opened.
 ghost use Rattle.std.specs.Prelude.{◌≡◌, ⊤, [], false, IfOk, IfErr};
 ghost use Rattle.staged.specs.declared.device.Which.{Which};
-ghost use Rattle.file_device.specs.FileDevice.{IsOpenRefusal};
+ghost use Rattle.file_device.specs.FileDevice.{IsDeviceOpenError};
 ghost use Rattle.file_device.specs.Pair.{raw_failures, raw_writes};
 
 use crate::file::{DiskFile, check_regular};
@@ -64,7 +64,7 @@ impl RawDevice<SystemFile> {
     pub fn open<R: Files<File = File>>(rt: &R, home: &str, log: &str) -> Result<FileDevice, Error>
         ensures failures { IfOk result (λ device. raw_failures device ≡ 0) }
         ensures writes { IfOk result (λ device. (which : Which) → raw_writes device which ≡ 0) }
-        ensures refusal { IfErr result IsOpenRefusal }
+        ensures errors { IfErr result IsDeviceOpenError }
     {
         open_both(rt, home, log, false)
     }
@@ -74,7 +74,7 @@ impl RawDevice<SystemFile> {
     pub fn create<R: Files<File = File>>(rt: &R, home: &str, log: &str) -> Result<FileDevice, Error>
         ensures failures { IfOk result (λ device. raw_failures device ≡ 0) }
         ensures writes { IfOk result (λ device. (which : Which) → raw_writes device which ≡ 0) }
-        ensures refusal { IfErr result IsOpenRefusal }
+        ensures errors { IfErr result IsDeviceOpenError }
     {
         open_both(rt, home, log, true)
     }
@@ -89,7 +89,7 @@ impl RawDevice<SystemFile> {
     ) -> Result<FileDevice, Error>
         ensures failures { IfOk result (λ device. raw_failures device ≡ 0) }
         ensures writes { IfOk result (λ device. (which : Which) → raw_writes device which ≡ 0) }
-        ensures refusal { IfErr result IsOpenRefusal }
+        ensures errors { IfErr result IsDeviceOpenError }
     {
         let home = read_file(rt, home)?;
         let log = match log {
@@ -120,7 +120,7 @@ fn open_both<R: Files<File = File>>(
 ) -> Result<FileDevice, Error>
     ensures failures { IfOk result (λ device. raw_failures device ≡ 0) }
     ensures writes { IfOk result (λ device. (which : Which) → raw_writes device which ≡ 0) }
-    ensures refusal { IfErr result IsOpenRefusal }
+    ensures errors { IfErr result IsDeviceOpenError }
 {
     let home = opened_file(rt, home, is_home_made)?;
     let log = opened_file(rt, log, true)?;
@@ -134,7 +134,7 @@ fn opened_file<R: Files<File = File>>(
     is_made: bool,
 ) -> Result<SystemFile, Error>
     ensures fresh { IfOk result (λ opened. opened.tick ≡ 0) }
-    ensures refusal { IfErr result IsOpenRefusal }
+    ensures errors { IfErr result IsDeviceOpenError }
 {
     file_of(DiskFile::open(rt, path, is_made))
 }
@@ -142,7 +142,7 @@ fn opened_file<R: Files<File = File>>(
 // Opens a file to be read.
 fn read_file<R: Files<File = File>>(rt: &R, path: &str) -> Result<SystemFile, Error>
     ensures fresh { IfOk result (λ opened. opened.tick ≡ 0) }
-    ensures refusal { IfErr result IsOpenRefusal }
+    ensures errors { IfErr result IsDeviceOpenError }
 {
     file_of(DiskFile::open_to_read(rt, path))
 }
@@ -150,7 +150,7 @@ fn read_file<R: Files<File = File>>(rt: &R, path: &str) -> Result<SystemFile, Er
 // Opens a log to be read, which may be missing.
 fn read_log<R: Files<File = File>>(rt: &R, path: &str) -> Result<SystemFile, Error>
     ensures fresh { IfOk result (λ opened. opened.tick ≡ 0) }
-    ensures refusal { IfErr result IsOpenRefusal }
+    ensures errors { IfErr result IsDeviceOpenError }
 {
     match read_file(rt, path) {
         Err(Error::NotFound) => Ok(missing_file()),
@@ -171,7 +171,7 @@ fn missing_file() -> SystemFile
 // A file that was opened, or the error that a device has.
 fn file_of(opened: io::Result<DiskFile>) -> Result<SystemFile, Error>
     ensures fresh { IfOk result (λ opened. opened.tick ≡ 0) }
-    ensures refusal { IfErr result IsOpenRefusal }
+    ensures errors { IfErr result IsDeviceOpenError }
 {
     match opened {
         Ok(file) => Ok(SystemFile { file, tick: 0 }),

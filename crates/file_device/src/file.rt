@@ -84,7 +84,7 @@ impl DiskFile {
 
     /// The number of bytes, where what is shown can be trusted.
     pub fn len(&self) -> io::Result<u64>
-        ensures refused { self.now.is_lost ≡ true → is_err result ≡ true }
+        ensures refused_only_if { self.now.is_lost ≡ true → is_err result ≡ true }
     {
         if self.is_lost {
             return Err(io::ErrorKind::Other.into());
@@ -98,7 +98,7 @@ impl DiskFile {
     /// Reads the smaller of the buffer and what there is from this place on.
     pub fn read_at(&self, at: u64, buffer: &mut [u8]) -> io::Result<usize>
         ensures within { IfOk result (λ count. count ≤ length buffer.old) }
-        ensures refused { self.now.is_lost ≡ true → is_err result ≡ true }
+        ensures refused_only_if { self.now.is_lost ≡ true → is_err result ≡ true }
     {
         let left = self.len()?.saturating_sub(at);
         let count = if left < buffer.len() as u64 {
@@ -114,7 +114,7 @@ impl DiskFile {
 
     /// Writes all of it.
     pub fn write_at(&self, at: u64, bytes: &[u8]) -> io::Result<()>
-        ensures refused { self.now.is_lost ≡ true → is_err result ≡ true }
+        ensures refused_only_if { self.now.is_lost ≡ true → is_err result ≡ true }
     {
         if self.is_lost || at > FURTHEST || bytes.len() as u64 > FURTHEST - at {
             return Err(io::ErrorKind::InvalidInput.into());
@@ -125,7 +125,7 @@ impl DiskFile {
     /// Makes what was written last. After a failure no later call pretends that it did.
     pub fn sync(&mut self) -> io::Result<()>
         ensures lost { self.new.is_lost ≡ is_err result }
-        ensures refused { self.old.is_lost ≡ true → is_err result ≡ true }
+        ensures refused_only_if { self.old.is_lost ≡ true → is_err result ≡ true }
     {
         if self.is_lost {
             return Err(io::ErrorKind::Other.into());

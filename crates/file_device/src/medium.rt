@@ -1,9 +1,9 @@
 //! A medium over one file on disk.
 ghost use Rattle.std.specs.Prelude.{◌≡◌, ◌≤◌, ⊤, ℕ, [], ◌+◌, ◌^◌, true, false, is_err, length, IfOk, IfErr, Ok, Err, IsErrOf, refl};
 ghost use Rattle.std.proofs.Common.{arith, inl};
-ghost use Rattle.cfb_medium.specs.Calls.{Extends, IsFaultUnless};
-ghost use Rattle.file_device.specs.FileDevice.{IsOpenRefusal};
-ghost use Rattle.file_device.specs.FileMedium.{medium_failures, HasMediumCause, MoreFailures, StaysLost, is_lost};
+ghost use Rattle.cfb_medium.specs.Calls.{Reaches, IsFaultOrInvalidInputIf};
+ghost use Rattle.file_device.specs.FileDevice.{IsDeviceOpenError};
+ghost use Rattle.file_device.specs.FileMedium.{medium_failures, IsJustifiedByFile, MoreFailures, StaysLost, is_lost};
 
 use crate::file::DiskFile;
 use cfb_medium::{Error, Medium, ReadMedium};
@@ -31,7 +31,7 @@ impl FileMedium {
     /// where another program writes it.
     pub fn open<R: Files<File = File>>(rt: &R, path: &str) -> Result<FileMedium, Error>
         ensures failures { IfOk result (λ medium. medium_failures medium ≡ 0) }
-        ensures refusal { IfErr result IsOpenRefusal }
+        ensures errors { IfErr result IsDeviceOpenError }
     {
         medium_of(DiskFile::open_to_read(rt, path))
     }
@@ -40,7 +40,7 @@ impl FileMedium {
     /// regular file, may not be written, or another program has it.
     pub fn open_rw<R: Files<File = File>>(rt: &R, path: &str) -> Result<FileMedium, Error>
         ensures failures { IfOk result (λ medium. medium_failures medium ≡ 0) }
-        ensures refusal { IfErr result IsOpenRefusal }
+        ensures errors { IfErr result IsDeviceOpenError }
     {
         medium_of(DiskFile::open(rt, path, false))
     }
@@ -49,7 +49,7 @@ impl FileMedium {
     /// `Device`, as for `open_rw`.
     pub fn create<R: Files<File = File>>(rt: &R, path: &str) -> Result<FileMedium, Error>
         ensures failures { IfOk result (λ medium. medium_failures medium ≡ 0) }
-        ensures refusal { IfErr result IsOpenRefusal }
+        ensures errors { IfErr result IsDeviceOpenError }
     {
         medium_of(DiskFile::open_empty(rt, path))
     }
@@ -58,7 +58,7 @@ impl FileMedium {
 // The medium of a file that was opened, with the error that a medium has.
 fn medium_of(opened: io::Result<DiskFile>) -> Result<FileMedium, Error>
     ensures failures { IfOk result (λ medium. medium_failures medium ≡ 0) }
-    ensures refusal { IfErr result IsOpenRefusal }
+    ensures errors { IfErr result IsDeviceOpenError }
 {
     match opened {
         Ok(file) => Ok(FileMedium {
@@ -84,14 +84,14 @@ impl ReadMedium for FileMedium {
 
     ghost moment = { λ _. 0 };
 
-    ghost may_leave = { λ _ _. ⊤ };
+    ghost crash_may_leave = { λ _ _. ⊤ };
 
-    ghost left_since = { λ _ _ _. ⊤ };
+    ghost crash_left_since = { λ _ _ _. ⊤ };
 
     fn len(&mut self) -> Result<u64, Error>
-        ensures continues { Extends (λ a b. MoreFailures a b) self.old self.new }
-        ensures cause { IfErr result (HasMediumCause self.old self.new) }
-        ensures fault { IfErr result (λ error. error ≡ Error.Device) }
+        ensures continues { Reaches (λ a b. MoreFailures a b) self.old self.new }
+        ensures cause { IfErr result (IsJustifiedByFile self.old self.new) }
+        ensures errors { IfErr result (λ error. error ≡ Error.Device) }
         ensures lost { StaysLost (IsErrOf result Error.Device) self.old self.new }
     {
         match self.file.len() {
@@ -102,9 +102,9 @@ impl ReadMedium for FileMedium {
 
     fn read_at(&mut self, at: u64, buffer: &mut [u8]) -> Result<usize, Error>
         ensures within { IfOk result (λ count. count ≤ length buffer.old) }
-        ensures continues { Extends (λ a b. MoreFailures a b) self.old self.new }
-        ensures cause { IfErr result (HasMediumCause self.old self.new) }
-        ensures fault { IfErr result (λ error. error ≡ Error.Device) }
+        ensures continues { Reaches (λ a b. MoreFailures a b) self.old self.new }
+        ensures cause { IfErr result (IsJustifiedByFile self.old self.new) }
+        ensures errors { IfErr result (λ error. error ≡ Error.Device) }
         ensures lost { StaysLost (IsErrOf result Error.Device) self.old self.new }
     {
         match self.file.read_at(at, buffer) {
@@ -131,9 +131,9 @@ impl Medium for FileMedium {
 
     /// After a failed sync it is `Device`. An empty write changes nothing, wherever it is.
     fn write_at(&mut self, at: u64, bytes: &[u8]) -> Result<(), Error>
-        ensures continues { Extends (λ a b. MoreFailures a b) self.old self.new }
-        ensures cause { IfErr result (HasMediumCause self.old self.new) }
-        ensures refusal { IfErr result (IsFaultUnless (2 ^ 63 ≤ at + length bytes.now)) }
+        ensures continues { Reaches (λ a b. MoreFailures a b) self.old self.new }
+        ensures cause { IfErr result (IsJustifiedByFile self.old self.new) }
+        ensures errors { IfErr result (IsFaultOrInvalidInputIf (2 ^ 63 ≤ at + length bytes.now)) }
         ensures empty { bytes.now ≡ [] → is_lost self.old ≡ false → result ≡ Ok tt }
         ensures lost { StaysLost (IsErrOf result Error.Device) self.old self.new }
     {
@@ -154,9 +154,9 @@ impl Medium for FileMedium {
 
     /// Syncs the file. After a failure each later call is `Device`, since what is shown may be missing on the disk.
     fn flush(&mut self) -> Result<(), Error>
-        ensures continues { Extends (λ a b. MoreFailures a b) self.old self.new }
-        ensures cause { IfErr result (HasMediumCause self.old self.new) }
-        ensures fault { IfErr result (λ error. error ≡ Error.Device) }
+        ensures continues { Reaches (λ a b. MoreFailures a b) self.old self.new }
+        ensures cause { IfErr result (IsJustifiedByFile self.old self.new) }
+        ensures errors { IfErr result (λ error. error ≡ Error.Device) }
         ensures lost { StaysLost (IsErrOf result Error.Device) self.old self.new }
         ensures noted { is_lost self.new ≡ is_err result }
     {
@@ -168,9 +168,9 @@ impl Medium for FileMedium {
 
     /// The same as `flush`.
     fn commit(&mut self) -> Result<(), Error>
-        ensures continues { Extends (λ a b. MoreFailures a b) self.old self.new }
-        ensures cause { IfErr result (HasMediumCause self.old self.new) }
-        ensures fault { IfErr result (λ error. error ≡ Error.Device) }
+        ensures continues { Reaches (λ a b. MoreFailures a b) self.old self.new }
+        ensures cause { IfErr result (IsJustifiedByFile self.old self.new) }
+        ensures errors { IfErr result (λ error. error ≡ Error.Device) }
         ensures lost { StaysLost (IsErrOf result Error.Device) self.old self.new }
         ensures noted { is_lost self.new ≡ is_err result }
     {
@@ -182,9 +182,9 @@ impl Medium for FileMedium {
 
     /// `InvalidInput`, and changes nothing: what is written stands in the file. After a failed sync it is `Device`.
     fn roll_back(&mut self) -> Result<(), Error>
-        ensures continues { Extends (λ a b. MoreFailures a b) self.old self.new }
-        ensures cause { IfErr result (HasMediumCause self.old self.new) }
-        ensures refused { is_lost self.old ≡ false → result ≡ Err Error.InvalidInput }
+        ensures continues { Reaches (λ a b. MoreFailures a b) self.old self.new }
+        ensures cause { IfErr result (IsJustifiedByFile self.old self.new) }
+        ensures refused_only_if { is_lost self.old ≡ false → result ≡ Err Error.InvalidInput }
         ensures lost { StaysLost (IsErrOf result Error.Device) self.old self.new }
     {
         if self.file.is_lost() {

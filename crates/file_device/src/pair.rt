@@ -3,11 +3,11 @@ ghost use Rattle.std.specs.Prelude.{◌≡◌, ◌≢◌, ◌≤◌, ◌<◌, �
 ghost use Rattle.std.proofs.Common.{arith, inl, subst};
 ghost use Rattle.std.proofs.lemmas.Bool.{and_parts};
 ghost use Rattle.cfb_medium.specs.Bytes.{overwritten, Serves};
-ghost use Rattle.cfb_medium.specs.Calls.{Extends};
-ghost use Rattle.cfb_medium.specs.Stops.{LeavesOnly};
+ghost use Rattle.cfb_medium.specs.Calls.{Reaches};
+ghost use Rattle.cfb_medium.specs.Crashes.{CrashLeavesOnly};
 ghost use Rattle.staged.specs.Files.{Files, file_of, with_file};
 ghost use Rattle.staged.specs.Device.{IsDeviceFault, TornFile, counted_up};
-ghost use Rattle.staged.specs.Stops.{IsCutFrom, IsKept, Remembers};
+ghost use Rattle.staged.specs.Crashes.{IsTornWriteOf, CrashKeepsFile, KeepsCrashHistory};
 ghost use Rattle.staged.specs.declared.device.Which.{Which};
 
 use crate::raw::RawFile;
@@ -74,9 +74,9 @@ impl<F: RawFile> Device for RawDevice<F> {
 
     ghost moment = { λ d. raw_moment d };
 
-    ghost may_leave = { λ d left. raw_may_leave d left };
+    ghost crash_may_leave = { λ d left. raw_may_leave d left };
 
-    ghost left_since = { λ d moment left. raw_left_since d moment left };
+    ghost crash_left_since = { λ d moment left. raw_left_since d moment left };
 
     fn len(&mut self, which: Which) -> Result<u64, Error> {
         if self.is_lost {

@@ -42,7 +42,7 @@ pub trait RawFile {
         ensures torn { IsTrue (honest self.old) → at ≤ length (shown self.old)
             → OnErr result (Torn at (length bytes.now) (shown self.old) (shown self.new)) }
         ensures honest { honest self.new ≡ honest self.old }
-        ensures failed { failed self.new ≡ failed self.old }
+        ensures when_failed { failed self.new ≡ failed self.old }
         ensures changed { changed self.new ≡ tick }
         ensures past { (k : ℕ) (left : List ℕ) → k < tick
             → left_at self.new k left ↔ left_at self.old k left }
@@ -58,7 +58,7 @@ pub trait RawFile {
             → OnOk result ((left : List ℕ) → left_at self.new tick left → left ≡ shown self.new) }
         ensures fewer { (left : List ℕ) → left_at self.new tick left → left_at self.old tick left }
         ensures honest { honest self.new ≡ honest self.old }
-        ensures failed { OnOk result (failed self.new ≡ failed self.old) }
+        ensures when_failed { OnOk result (failed self.new ≡ failed self.old) }
         ensures changed { changed self.new ≡ tick }
         ensures past { (k : ℕ) (left : List ℕ) → k < tick
             → left_at self.new k left ↔ left_at self.old k left };

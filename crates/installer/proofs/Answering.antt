@@ -7,20 +7,20 @@ use Rattle.cfb.specs.Publishing.{medium_in}
 use Rattle.cfb.specs.Views.{mini_of}
 use Rattle.cfb.specs.declared.compound_file.CompoundFile.{CompoundFile}
 use Rattle.cfb_fat.specs.Keeping.{own_cause, rests_keep}
-use Rattle.cfb_fat.specs.Tables.{has_failed_here, HasCauseBelow}
+use Rattle.cfb_fat.specs.Tables.{has_failed_here, IsJustifiedBySectors}
 use Rattle.cfb_fat.specs.declared.allocator.Allocator.{Allocator}
-use Rattle.cfb_medium.specs.Calls.{IsFaultUnless, Keeps}
+use Rattle.cfb_medium.specs.Calls.{IsFaultOrInvalidInputIf, KeepsMediumState}
 use Rattle.cfb_medium.specs.declared.error.Error.{Error}
 use Rattle.cfb_medium.specs.declared.error.Error.TheVariants.{Device, Failed, Full, InvalidData, InvalidInput, Memory, NotFound}
 use Rattle.cfb_medium.specs.declared.medium.ReadMedium.{Ghosts}
 use Rattle.cfb_mini.specs.Views.{allocator_of}
-use Rattle.cfb_owned.specs.Chains.{GoesOn}
+use Rattle.cfb_chain_io.specs.ChainEffects.{KeepsFileInvariants}
 use Rattle.command_file.specs.Request as asked
 use Rattle.command_file.specs.Request.{Request, is_changing, is_codepage, is_reading}
 use Rattle.msi.specs.Changing.{permission, IsRemovalError, KeepsHeld, PackageChanges, PackageWrites}
-use Rattle.msi.specs.Opened.{file_in, sound_in, PackageHolds, PackageRests}
+use Rattle.msi.specs.Opened.{file_in, sound_in, PackageHasContent, OnlyReadsPackage}
 use Rattle.msi.specs.declared.package.Package.{Package}
-use Rattle.msi_meaning.specs.Package.{Packed}
+use Rattle.msi_spec.specs.Package.{PackageContent}
 use Rattle.msi_stored.proofs.StoredLaws.{file_refl}
 use Rattle.msi_stored.specs.Changing.{PackageRule}
 use Rattle.installer.proofs.Faults.{own_fault_of}
@@ -28,24 +28,24 @@ use Rattle.installer.proofs.Going.{err_is, goes_changes, goes_lost, goes_told, m
 use Rattle.installer.proofs.Resting.{keeps_rests, rests_on}
 use Rattle.installer.proofs.Writing.{goes_writes}
 use Rattle.installer.specs.Behaviour.{BehavesOnce}
-use Rattle.installer.specs.Course.{Course, takes_room}
-use Rattle.installer.specs.Follows.{AnswersQuietly}
+use Rattle.installer.specs.SessionStates.{SessionState, takes_room}
+use Rattle.installer.specs.CommandRuns.{RunsWithoutPublishing}
 use Rattle.installer.specs.Reply.{Reply}
 use Rattle.installer.specs.Reply as told
 use Rattle.installer.specs.Sessions.{condition_of, has_base, is_failed, package_in, phase_of, IsAt}
-use Rattle.installer.specs.Sessions.{letters_in as session_letters}
-use Rattle.installer.specs.Step.{Reads, Step, told_of}
+use Rattle.installer.specs.Sessions.{session_case_table as session_letters}
+use Rattle.installer.specs.Step.{Reads, PackageStep, told_of}
 use Rattle.installer.specs.declared.session.SessionOver.{SessionOver}
 use Rattle.msi_texts.specs.Results.{◌>>=◌}
 
 -- the answer of a definition, and its refusal, as what is told
-pub reads_ok : {B : Type 0} (expected : Result B Error) (b : B) (tell : B → Reply) (P : Packed) (reply : Reply) → expected ≡ Ok b → reply ≡ tell b → Reads (expected >>= λ x. Ok (tell x)) P P reply
+pub reads_ok : {B : Type 0} (expected : Result B Error) (b : B) (tell : B → Reply) (P : PackageContent) (reply : Reply) → expected ≡ Ok b → reply ≡ tell b → Reads (expected >>= λ x. Ok (tell x)) P P reply
 reads_ok expected b tell P reply is same = rw is (refl, same)
 
-pub reads_err : {B : Type 0} (expected : Result B Error) (e : Error) (tell : B → Reply) (P : Packed) → expected ≡ Err e → Reads (expected >>= λ x. Ok (tell x)) P P (told.refused e)
+pub reads_err : {B : Type 0} (expected : Result B Error) (e : Error) (tell : B → Reply) (P : PackageContent) → expected ≡ Err e → Reads (expected >>= λ x. Ok (tell x)) P P (told.refused e)
 reads_err expected e tell P is = rw is (refl, refl)
 
-pub stays_on : {F : Type 0} {g : Ghosts F} (it : Allocator F g) → GoesOn it it
+pub stays_on : {F : Type 0} {g : Ghosts F} (it : Allocator F g) → KeepsFileInvariants it it
 stays_on it = record { honest = refl; continues = λ start from. from; version = refl; live = λ is. is; orderly = λ _. refl; told = λ _ _ _ is. is; ends = λ live honest orderly ends. ends }
 
 -- an error that comes neither from a device, nor from an earlier fault, nor from want of numbers
@@ -66,7 +66,7 @@ refusal_own e (inr is) = rw is (record { device = λ no. absurd (cc); earlier = 
 
 -- nor does the refusal of what removes
 pub removal_fits : (e : Error) → IsRemovalError e → e ≡ Full → ⊥
-removal_fits e (inl fault) full = subst (IsFaultUnless ⊥) full fault
+removal_fits e (inl fault) full = subst (IsFaultOrInvalidInputIf ⊥) full fault
 removal_fits e (inr (inl is)) full = let never : NotFound ≡ Full = sym is ∙ full in absurd (cc)
 removal_fits e (inr (inr (inl is))) full = let never : InvalidInput ≡ Full = sym is ∙ full in absurd (cc)
 removal_fits e (inr (inr (inr is))) full = let never : InvalidData ≡ Full = sym is ∙ full in absurd (cc)
@@ -77,7 +77,7 @@ may_fill (Ok u) is = tt
 may_fill (Err e) is = λ _. is
 
 -- such an error has its cause
-pub cause_own : {F : Type 0} {g : Ghosts F} (old new : Package F g) (e : Error) → IsOwn e → HasCauseBelow (allocator_of (mini_of (file_in old))) (allocator_of (mini_of (file_in new))) e
+pub cause_own : {F : Type 0} {g : Ghosts F} (old new : Package F g) (e : Error) → IsOwn e → IsJustifiedBySectors (allocator_of (mini_of (file_in old))) (allocator_of (mini_of (file_in new))) e
 cause_own old new e own = own_cause (allocator_of (mini_of (file_in old))) (allocator_of (mini_of (file_in new))) e own.device (λ failed. absurd (own.earlier failed))
 
 -- such is the refusal of a change that isn't permitted, unless there was a fault
@@ -87,7 +87,7 @@ permission_own failed true (Err e) live is = absurd (not_ok (sym (is ∙ ap (λ 
 permission_own failed false (Err e) live is = data_own e (err_is {X = Unit {0}} e InvalidData (is ∙ ap (λ f. permission f false) live))
 
 -- a package that isn't touched
-pub rests_itself : {F : Type 0} {g : Ghosts F} (it : Package F g) → PackageRests it it
+pub rests_itself : {F : Type 0} {g : Ghosts F} (it : Package F g) → OnlyReadsPackage it it
 rests_itself it = record { file = file_refl (file_in it); tables = refl; kind = refl; pool = refl; summary = refl; sound = refl; written = refl }
 
 same_refusal : (e f : Error) → told.refused e ≡ told.refused f → e ≡ f
@@ -126,7 +126,7 @@ behaves_ended it request failed = record {
 -- how a command behaves before a fault
 pub behaves_live : {F : Type 0} {g : Ghosts F} (refl_continues : (m : F) → g.continues m m) (old new : SessionOver F g) → is_failed old ≡ false → (request : Request) (reply : Reply)
     → g.failures (medium_in (file_in (package_in old))) ≤ g.failures (medium_in (file_in (package_in new))) → sound_in (package_in new) ≡ sound_in (package_in old)
-    → ((e : Error) → reply ≡ told.refused e → HasCauseBelow (allocator_of (mini_of (file_in (package_in old)))) (allocator_of (mini_of (file_in (package_in new)))) e)
+    → ((e : Error) → reply ≡ told.refused e → IsJustifiedBySectors (allocator_of (mini_of (file_in (package_in old)))) (allocator_of (mini_of (file_in (package_in new)))) e)
     → ((e : Error) → reply ≡ told.refused e → is_codepage request ≡ false) → (is_reading request ≡ true → is_failed new ≡ false)
     → (sound_in (package_in old) ≡ false → is_changing request ≡ true → (reply ≡ told.refused InvalidData) ⊎ (reply ≡ told.refused Memory))
     → BehavesOnce (condition_of old) request reply (condition_of new)
@@ -143,15 +143,15 @@ behaves_live refl_continues old new live request reply counted sound caused othe
       counted = counted;
     }
 
-module _ {F : Type 0} {g : Ghosts F} (refl_continues : (m : F) → g.continues m m) (continues_keeps : (a b : F) → g.continues a b → Keeps g.honest g.failed g.failures a b)
+module _ {F : Type 0} {g : Ghosts F} (refl_continues : (m : F) → g.continues m m) (continues_keeps : (a b : F) → g.continues a b → KeepsMediumState g.honest g.failed g.failures a b)
     (old new : SessionOver F g) (live : is_failed old ≡ false) (based : has_base new ≡ has_base old) where
   -- a change
   pub answers_changes : (rule : PackageRule) (request : Request) (reply : Reply) (result : Result (Unit {0}) Error) → is_changing request ≡ true
-      → ((P Q : Packed) (answer : Result (Unit {0}) Error) → rule P Q answer → StepOr (session_letters old) P request answer Q)
+      → ((P Q : PackageContent) (answer : Result (Unit {0}) Error) → rule P Q answer → StepOr (session_letters old) P request answer Q)
       → PackageChanges rule result (package_in old) (package_in new)
-      → GoesOn (allocator_of (mini_of (file_in (package_in old)))) (allocator_of (mini_of (file_in (package_in new))))
-      → IfErr result (HasCauseBelow (allocator_of (mini_of (file_in (package_in old)))) (allocator_of (mini_of (file_in (package_in new)))))
-      → IfErr result (λ e. e ≡ Full → takes_room request ≡ true) → reply ≡ told_of result → AnswersQuietly request reply old new
+      → KeepsFileInvariants (allocator_of (mini_of (file_in (package_in old)))) (allocator_of (mini_of (file_in (package_in new))))
+      → IfErr result (IsJustifiedBySectors (allocator_of (mini_of (file_in (package_in old)))) (allocator_of (mini_of (file_in (package_in new)))))
+      → IfErr result (λ e. e ≡ Full → takes_room request ≡ true) → reply ≡ told_of result → RunsWithoutPublishing request reply old new
   answers_changes rule request reply result changing step changes on cause room is = record {
     by_rule = record {
       goes = λ start at. rw is (
@@ -162,7 +162,7 @@ module _ {F : Type 0} {g : Ghosts F} (refl_continues : (m : F) → g.continues m
       sound = changes.seen.1;
     };
     behaves = behaves_live refl_continues old new live request reply (moves_on refl_continues continues_keeps (package_in old) (package_in new) on changes.seen.1).counted changes.seen.1
-        (λ e told. told_error result reply (HasCauseBelow (allocator_of (mini_of (file_in (package_in old)))) (allocator_of (mini_of (file_in (package_in new))))) e is cause told)
+        (λ e told. told_error result reply (IsJustifiedBySectors (allocator_of (mini_of (file_in (package_in old)))) (allocator_of (mini_of (file_in (package_in new))))) e is cause told)
         (λ e told. no_codepage request changing) (λ reads. absurd (both_ways (is_reading request) (unread request changing) reads))
         (λ unsound _. inl (is ∙ ap told_of (changes.unsound live unsound).0));
     based = based;
@@ -171,19 +171,19 @@ module _ {F : Type 0} {g : Ghosts F} (refl_continues : (m : F) → g.continues m
 
   -- a change in memory alone
   pub answers_in_memory : (rule : PackageRule) (request : Request) (reply : Reply) (result : Result (Unit {0}) Error) → is_changing request ≡ true
-      → ((P Q : Packed) (answer : Result (Unit {0}) Error) → rule P Q answer → StepOr (session_letters old) P request answer Q)
-      → PackageChanges rule result (package_in old) (package_in new) → file_in (package_in new) ≡ file_in (package_in old) → IfErr result IsOwn → reply ≡ told_of result → AnswersQuietly request reply old new
+      → ((P Q : PackageContent) (answer : Result (Unit {0}) Error) → rule P Q answer → StepOr (session_letters old) P request answer Q)
+      → PackageChanges rule result (package_in old) (package_in new) → file_in (package_in new) ≡ file_in (package_in old) → IfErr result IsOwn → reply ≡ told_of result → RunsWithoutPublishing request reply old new
   answers_in_memory rule request reply result changing step changes same own is =
       let before = allocator_of (mini_of (file_in (package_in old))) in
-      answers_changes rule request reply result changing step changes (subst (λ (f : CompoundFile F g). GoesOn before (allocator_of (mini_of f))) (sym same) (stays_on before))
-      (IfErr-weaker result IsOwn (HasCauseBelow before (allocator_of (mini_of (file_in (package_in new))))) (λ e owns. own_cause before (allocator_of (mini_of (file_in (package_in new)))) e owns.device (λ failed. absurd (owns.earlier failed))) own)
+      answers_changes rule request reply result changing step changes (subst (λ (f : CompoundFile F g). KeepsFileInvariants before (allocator_of (mini_of f))) (sym same) (stays_on before))
+      (IfErr-weaker result IsOwn (IsJustifiedBySectors before (allocator_of (mini_of (file_in (package_in new))))) (λ e owns. own_cause before (allocator_of (mini_of (file_in (package_in new)))) e owns.device (λ failed. absurd (owns.earlier failed))) own)
       (IfErr-weaker result IsOwn (λ e. e ≡ Full → takes_room request ≡ true) (λ e owns full. absurd (owns.full full)) own) is
 
   -- a flush
   pub answers_writes : (reply : Reply) (result : Result (Unit {0}) Error) → PackageWrites result (package_in old) (package_in new)
-      → GoesOn (allocator_of (mini_of (file_in (package_in old)))) (allocator_of (mini_of (file_in (package_in new))))
-      → IfErr result (HasCauseBelow (allocator_of (mini_of (file_in (package_in old)))) (allocator_of (mini_of (file_in (package_in new)))))
-      → reply ≡ told_of result → AnswersQuietly asked.flush reply old new
+      → KeepsFileInvariants (allocator_of (mini_of (file_in (package_in old)))) (allocator_of (mini_of (file_in (package_in new))))
+      → IfErr result (IsJustifiedBySectors (allocator_of (mini_of (file_in (package_in old)))) (allocator_of (mini_of (file_in (package_in new)))))
+      → reply ≡ told_of result → RunsWithoutPublishing asked.flush reply old new
   answers_writes reply result writes on cause is = record {
     by_rule = record {
       goes = λ start at. rw is (
@@ -193,14 +193,14 @@ module _ {F : Type 0} {g : Ghosts F} (refl_continues : (m : F) → g.continues m
       sound = writes.seen.1;
     };
     behaves = behaves_live refl_continues old new live asked.flush reply (moves_on refl_continues continues_keeps (package_in old) (package_in new) on writes.seen.1).counted writes.seen.1
-        (λ e told. told_error result reply (HasCauseBelow (allocator_of (mini_of (file_in (package_in old)))) (allocator_of (mini_of (file_in (package_in new))))) e is cause told)
+        (λ e told. told_error result reply (IsJustifiedBySectors (allocator_of (mini_of (file_in (package_in old)))) (allocator_of (mini_of (file_in (package_in new))))) e is cause told)
         (λ e told. refl) (λ reads. absurd (cc)) (λ unsound changes. absurd (cc));
     based = based;
     quiet = on;
   }
 
-  module _ (rests : PackageRests (package_in old) (package_in new)) where
-    on : GoesOn (allocator_of (mini_of (file_in (package_in old)))) (allocator_of (mini_of (file_in (package_in new))))
+  module _ (rests : OnlyReadsPackage (package_in old) (package_in new)) where
+    on : KeepsFileInvariants (allocator_of (mini_of (file_in (package_in old)))) (allocator_of (mini_of (file_in (package_in new))))
     on = rests_on (package_in old) (package_in new) rests
 
     moves : Moves (package_in old) (package_in new)
@@ -217,18 +217,18 @@ module _ {F : Type 0} {g : Ghosts F} (refl_continues : (m : F) → g.continues m
         ap₂ (λ a b. a || b) here (sym moves.as_failed) ∙ live
 
     behaves_reading : (request : Request) (reply : Reply) → is_reading request ≡ true
-        → ((e : Error) → reply ≡ told.refused e → HasCauseBelow (allocator_of (mini_of (file_in (package_in old)))) (allocator_of (mini_of (file_in (package_in new)))) e)
+        → ((e : Error) → reply ≡ told.refused e → IsJustifiedBySectors (allocator_of (mini_of (file_in (package_in old)))) (allocator_of (mini_of (file_in (package_in new)))) e)
         → ((e : Error) → reply ≡ told.refused e → is_codepage request ≡ false) → BehavesOnce (condition_of old) request reply (condition_of new)
     behaves_reading request reply reading caused other =
         behaves_live refl_continues old new live request reply moves.counted rests.sound caused other (λ _. rested)
         (λ _ changing. absurd (both_ways (is_changing request) (unchanging request reading) changing))
 
-    held_at : (start : Course) → IsAt (package_in old) start → PackageHolds (package_in old) start.held
+    held_at : (start : SessionState) → IsAt (package_in old) start → PackageHasContent (package_in old) start.held
     held_at start at = at.held (at.phase ∙ ap phase_of live)
 
     -- a call that reads, whose answer is that of the package that is held
     pub answers_told : (request : Request) (reply : Reply) → is_reading request ≡ true → is_refused reply ≡ false
-        → ((P : Packed) → PackageHolds (package_in old) P → Step (session_letters old) P request reply P) → AnswersQuietly request reply old new
+        → ((P : PackageContent) → PackageHasContent (package_in old) P → PackageStep (session_letters old) P request reply P) → RunsWithoutPublishing request reply old new
     answers_told request reply reading other step = record {
       by_rule = record {
         goes = λ start at. goes_told refl_continues (package_in old) (package_in new) start at live moves request reply (no_commit_read request reading) keeps
@@ -243,9 +243,9 @@ module _ {F : Type 0} {g : Ghosts F} (refl_continues : (m : F) → g.continues m
 
     -- it is refused as the package that is held refuses it, or by a fault with a cause
     pub answers_refused : (request : Request) (e : Error) → is_reading request ≡ true → is_codepage request ≡ false
-        → HasCauseBelow (allocator_of (mini_of (file_in (package_in old)))) (allocator_of (mini_of (file_in (package_in new)))) e
-        → ((P : Packed) → PackageHolds (package_in old) P → IsFaultUnless ⊥ e ⊎ Step (session_letters old) P request (told.refused e) P)
-        → AnswersQuietly request (told.refused e) old new
+        → IsJustifiedBySectors (allocator_of (mini_of (file_in (package_in old)))) (allocator_of (mini_of (file_in (package_in new)))) e
+        → ((P : PackageContent) → PackageHasContent (package_in old) P → IsFaultOrInvalidInputIf ⊥ e ⊎ PackageStep (session_letters old) P request (told.refused e) P)
+        → RunsWithoutPublishing request (told.refused e) old new
     answers_refused request e reading other cause is = record {
       by_rule = record {
         goes = λ start at. ⊎_elim
@@ -257,13 +257,13 @@ module _ {F : Type 0} {g : Ghosts F} (refl_continues : (m : F) → g.continues m
         sound = rests.sound;
       };
       behaves = behaves_reading request (told.refused e) reading
-          (λ f is. subst (HasCauseBelow (allocator_of (mini_of (file_in (package_in old)))) (allocator_of (mini_of (file_in (package_in new))))) (same_refusal e f is) cause) (λ f is. other);
+          (λ f is. subst (IsJustifiedBySectors (allocator_of (mini_of (file_in (package_in old)))) (allocator_of (mini_of (file_in (package_in new))))) (same_refusal e f is) cause) (λ f is. other);
       based = based;
       quiet = on;
     }
 
     -- there is no memory for the answer
-    pub answers_memory : (request : Request) (e : Error) → is_codepage request ≡ false → e ≡ Memory → AnswersQuietly request (told.refused e) old new
+    pub answers_memory : (request : Request) (e : Error) → is_codepage request ≡ false → e ≡ Memory → RunsWithoutPublishing request (told.refused e) old new
     answers_memory request e other is = record {
       by_rule = record {
         goes = λ start at. goes_lost refl_continues (package_in old) (package_in new) start at live moves request e keeps other (inl (inl is));

@@ -3,10 +3,10 @@ use Rattle.std.proofs.Common.{◌≡◌, ◌∙◌, ℕ, Bool, List, None, Some,
 use Rattle.std.specs.Prelude.{Err, Ok, Option, option_map}
 use Rattle.cfb_medium.specs.declared.error.Error.TheVariants.{NotFound}
 use Rattle.cfb_medium.specs.declared.medium.ReadMedium.{Ghosts}
-use Rattle.msi.specs.Opened.{pool_in, tables_in, PackageHolds}
+use Rattle.msi.specs.Opened.{pool_in, tables_in, PackageHasContent}
 use Rattle.msi.specs.declared.package.Package.{Package}
-use Rattle.msi_meaning.specs.Calls.{found_table}
-use Rattle.msi_meaning.specs.Package.{Packed}
+use Rattle.msi_spec.specs.Calls.{found_table}
+use Rattle.msi_spec.specs.Package.{PackageContent}
 use Rattle.msi_parts.proofs.Judging.{named_heading}
 use Rattle.msi_parts.specs.Judged.{heading_named}
 use Rattle.msi_parts.specs.Parts.{heading}
@@ -32,7 +32,7 @@ module _ (long : Bool) (ts : List Table) (name : List ℕ) where
       by None none = none
       by (Some t) there = let never : Some (heading long t) ≡ None = sym (named_heading long ts name ∙ ap (option_map (heading long)) there) ∙ is in absurd (cc)
 
-module _ {F : Type 0} {g : Ghosts F} (it : Package F g) (P : Packed) (held : PackageHolds it P) (name : List ℕ) where
+module _ {F : Type 0} {g : Ghosts F} (it : Package F g) (P : PackageContent) (held : PackageHasContent it P) (name : List ℕ) where
   -- of a package that is held
   pub columns_found : (h : Heading) → heading_named (tables_in it) name ≡ Some h → (t : Table) × (found_table P name ≡ Ok t) × (t.columns ≡ h.columns)
   columns_found h is =

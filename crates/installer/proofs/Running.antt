@@ -5,23 +5,23 @@ use Rattle.std.specs.Prelude.{◌==◌, MatchBool}
 use Rattle.std.proofs.lemmas.Bool.Decides.{nat_tests}
 use Rattle.std.proofs.Math.ListN.{get_or}
 use Rattle.cfb_medium.specs.declared.medium.ReadMedium.{Ghosts}
-use Rattle.cfb_tree.specs.Names.{Letters}
+use Rattle.cfb_tree.specs.Names.{CaseTable}
 use Rattle.command_file.specs.Request.{Request}
 use Rattle.staged.specs.declared.device.Device as device
 use Rattle.staged.specs.declared.staged.Staged.{Staged}
 use Rattle.installer.proofs.Stopping.{survives_then}
 use Rattle.installer.specs.Behaviour.{Behaves, Condition}
-use Rattle.installer.specs.Course.{Course, Mark, Phase, Runs, marks_of}
-use Rattle.installer.specs.Follows.{AreAnswered, FollowAll, Follows}
+use Rattle.installer.specs.SessionStates.{SessionState, BegunCommit, Phase, SessionRuns, marks_of}
+use Rattle.installer.specs.CommandRuns.{AreAnswered, FollowAll, RunsCommand}
 use Rattle.installer.specs.Reply.{Reply}
-use Rattle.installer.specs.Sessions.{condition_of, device_below, letters_in}
-use Rattle.installer.specs.Survival.{Survives}
+use Rattle.installer.specs.Sessions.{condition_of, device_below, session_case_table}
+use Rattle.installer.specs.CrashSurvival.{SurvivesCrash}
 use Rattle.installer.specs.declared.session.SessionOver.{SessionOver}
 
-runs_then : (letters : Letters) (start mid end : Course) (first second : List Request) (told later : List Reply) (own marks : List Mark)
-    → Runs letters start first told own mid → Runs letters mid second later marks end → Runs letters start (first ++ second) (told ++ later) (own ++ marks) end
+runs_then : (letters : CaseTable) (start mid end : SessionState) (first second : List Request) (told later : List Reply) (own marks : List BegunCommit)
+    → SessionRuns letters start first told own mid → SessionRuns letters mid second later marks end → SessionRuns letters start (first ++ second) (told ++ later) (own ++ marks) end
 runs_then letters start mid end [] second [] later own marks a b =
-    subst (λ ms. Runs letters start second later ms end) (sym (ap (λ ms. ms ++ marks) a.0)) (subst (λ m. Runs letters m second later marks end) a.1 b)
+    subst (λ ms. SessionRuns letters start second later ms end) (sym (ap (λ ms. ms ++ marks) a.0)) (subst (λ m. SessionRuns letters m second later marks end) a.1 b)
 runs_then letters start mid end (r ∷ rs) second (p ∷ ps) later own marks a b = (
   a.0,
   a.1 ++ marks,
@@ -39,15 +39,15 @@ behaves_then old mid new [] second (p ∷ ps) later a b = absurd a
 behaves_then old mid new (r ∷ rs) second [] later a b = absurd a
 
 module _ {D : Type 0} {g : device.Ghosts D} {h : Ghosts (Staged D g)} where
-  pub follow_none : (it : SessionOver (Staged D g) h) → Survives (letters_in it) g (device_below it) (device_below it) [] → FollowAll [] [] it it
+  pub follow_none : (it : SessionOver (Staged D g) h) → SurvivesCrash (session_case_table it) g (device_below it) (device_below it) [] → FollowAll [] [] it it
   follow_none it stay = record { ran = λ start at. (start, [], (refl, refl), at, stay); letters = refl; behaves = refl; still = λ _. stay; sound = refl }
 
-  pub follow_one : (request : Request) (reply : Reply) (old new : SessionOver (Staged D g) h) → Follows request reply old new → FollowAll (request ∷ []) (reply ∷ []) old new
+  pub follow_one : (request : Request) (reply : Reply) (old new : SessionOver (Staged D g) h) → RunsCommand request reply old new → FollowAll (request ∷ []) (reply ∷ []) old new
   follow_one request reply old new follows = record {
     ran = λ start at.
         let on = follows.goes start at in
         let marks = marks_of start request reply on.0.phase in
-        let own = subst (λ (p : Phase). Survives (letters_in old) g (device_below old) (device_below new) (marks_of start request reply p)) (sym on.2.place.phase) (follows.survives start at) in
+        let own = subst (λ (p : Phase). SurvivesCrash (session_case_table old) g (device_below old) (device_below new) (marks_of start request reply p)) (sym on.2.place.phase) (follows.survives start at) in
         (on.0, marks, (on.0, [], on.1, (refl, refl), sym (append-nil marks)), on.2, own);
     letters = follows.letters;
     behaves = (condition_of new, follows.behaves, refl);
@@ -60,19 +60,19 @@ module _ {D : Type 0} {g : device.Ghosts D} {h : Ghosts (Staged D g)} where
     ran = λ start at.
         let before = a.ran start at in
         let on = b.ran before.0 before.3 in
-        let runs = subst (λ (l : Letters). Runs l before.0 second later on.1 on.0) a.letters on.2 in
-        let own = subst (λ (l : Letters). Survives l g (device_below mid) (device_below new) on.1) a.letters on.4 in (
+        let runs = subst (λ (l : CaseTable). SessionRuns l before.0 second later on.1 on.0) a.letters on.2 in
+        let own = subst (λ (l : CaseTable). SurvivesCrash l g (device_below mid) (device_below new) on.1) a.letters on.4 in (
           on.0,
           before.1 ++ on.1,
-          runs_then (letters_in old) start before.0 on.0 first second told later before.1 on.1 before.2 runs,
+          runs_then (session_case_table old) start before.0 on.0 first second told later before.1 on.1 before.2 runs,
           on.3,
-          survives_then (letters_in old) g (device_below old) (device_below mid) (device_below new) before.1 on.1 before.4 own,
+          survives_then (session_case_table old) g (device_below old) (device_below mid) (device_below new) before.1 on.1 before.4 own,
         );
     letters = b.letters ∙ a.letters;
     behaves = behaves_then (condition_of old) (condition_of mid) (condition_of new) first second told later a.behaves b.behaves;
     still = λ unsound.
-        let own = subst (λ (l : Letters). Survives l g (device_below mid) (device_below new) []) a.letters (b.still (a.sound ∙ unsound)) in
-        survives_then (letters_in old) g (device_below old) (device_below mid) (device_below new) [] [] (a.still unsound) own;
+        let own = subst (λ (l : CaseTable). SurvivesCrash l g (device_below mid) (device_below new) []) a.letters (b.still (a.sound ∙ unsound)) in
+        survives_then (session_case_table old) g (device_below old) (device_below mid) (device_below new) [] [] (a.still unsound) own;
     sound = b.sound ∙ a.sound;
   }
 
@@ -101,14 +101,14 @@ otherwise false P Q is m = m
 otherwise true P Q is m = absurd (cc is)
 
 module _ {D : Type 0} {g : device.Ghosts D} {h : Ghosts (Staged D g)} {C : Type 0} (f : C → Request) where
-  pub answered_none : (commands : List C) → (length commands == 0) ≡ true → (before : List Reply) (it : SessionOver (Staged D g) h) → Survives (letters_in it) g (device_below it) (device_below it) [] → AreAnswered (map f commands) before before it it
+  pub answered_none : (commands : List C) → (length commands == 0) ≡ true → (before : List Reply) (it : SessionOver (Staged D g) h) → SurvivesCrash (session_case_table it) g (device_below it) (device_below it) [] → AreAnswered (map f commands) before before it it
   answered_none [] none before it stay = ([], sym (append-nil before), follow_none it stay)
   answered_none (x ∷ xs) none before it stay = absurd (let never : length (x ∷ xs) ≡ 0 = grind (arith, nat_tests, none) in omega (arith, never))
 
-  pub answered_one : (commands : List C) (x : C) → length commands ≡ 1 → x ≡ get_or commands 0 x → (before after : List Reply) (reply : Reply) (old new : SessionOver (Staged D g) h) → after ≡ before ++ reply ∷ [] → Follows (f x) reply old new
+  pub answered_one : (commands : List C) (x : C) → length commands ≡ 1 → x ≡ get_or commands 0 x → (before after : List Reply) (reply : Reply) (old new : SessionOver (Staged D g) h) → after ≡ before ++ reply ∷ [] → RunsCommand (f x) reply old new
       → AreAnswered (map f commands) before after old new
   answered_one [] x one is before after reply old new told follows = absurd (omega (arith, one))
-  answered_one (y ∷ []) x one is before after reply old new told follows = (reply ∷ [], told, follow_one (f y) reply old new (subst (λ z. Follows (f z) reply old new) is follows))
+  answered_one (y ∷ []) x one is before after reply old new told follows = (reply ∷ [], told, follow_one (f y) reply old new (subst (λ z. RunsCommand (f z) reply old new) is follows))
   answered_one (y ∷ z ∷ zs) x one is before after reply old new told follows = absurd (omega (arith, one))
 
   pub answered_then : (n : ℕ) (commands first second : List C) → first ≡ take n commands → second ≡ drop n commands → (before mid after : List Reply) (a b c : SessionOver (Staged D g) h) → AreAnswered (map f first) before mid a b

@@ -7,12 +7,12 @@ use Rattle.msi.proofs.Permitted.{permitted}
 use Rattle.msi.proofs.Summed.{holds_summed, one_section_held}
 use Rattle.msi.specs.Changing.{failed_in, permission, PackageChanges}
 use Rattle.msi.specs.Lending.{summed_up, with_summary}
-use Rattle.msi.specs.Opened.{sound_in, summary_in, PackageHolds}
+use Rattle.msi.specs.Opened.{sound_in, summary_in, PackageHasContent}
 use Rattle.msi.specs.declared.package.Package.{Package}
 use Rattle.msi_props.specs.Held.{SetState}
 use Rattle.msi_props.specs.Props.{Property, Props}
 use Rattle.msi_stored.specs.Changing.{PackageRule}
-use Rattle.msi_summary.specs.Edits.{Edits}
+use Rattle.msi_summary.specs.Edits.{EditsOrOutOfMemory}
 use Rattle.msi_summary.specs.Summary.{Edit, edited, set_arch, set_keywords, set_languages, set_number, set_or_cleared, set_page, set_text, set_time}
 use Rattle.installer.proofs.Answering.{memory_own, IsOwn}
 use Rattle.installer.proofs.Going.{not_ok}
@@ -44,7 +44,7 @@ module _ {F : Type 0} {g : Ghosts F} (it : Package F g) (may : permission (faile
   no_unsound : sound_in it ≡ false → ⊥
   no_unsound is = let never : true ≡ false = sym (permitted (failed_in it) (sound_in it) may).1 ∙ is in absurd (cc)
 
-  pub summary_changes : (s : SetState) (r : Result (Unit {0}) Error) → Edits change (summary_in it) s r → PackageChanges (setting_summary change) r it (with_summary it s)
+  pub summary_changes : (s : SetState) (r : Result (Unit {0}) Error) → EditsOrOutOfMemory change (summary_in it) s r → PackageChanges (setting_summary change) r it (with_summary it s)
   summary_changes s (Ok u) is = record {
     failed = λ failed. absurd (no_fail failed);
     unsound = λ live unsound. absurd (no_unsound unsound);
@@ -65,13 +65,13 @@ module _ {F : Type 0} {g : Ghosts F} (it : Package F g) (may : permission (faile
       holds = λ P h.
           let one : s.props.sections ≡ 1 = ap (λ (x : SetState). x.props.sections) is.1 ∙ one_section_held it P h sound in
           let same : s.props ≡ P.summary = ap (λ (x : SetState). x.props) is.1 ∙ h.memory.summary in
-          subst (λ x. PackageHolds (with_summary it s) (summed_up x P)) same (holds_summed it P h s one);
+          subst (λ x. PackageHasContent (with_summary it s) (summed_up x P)) same (holds_summed it P h s one);
     });
     seen = (refl, refl);
   }
 
 -- an edit names neither the device nor a fault before
-pub edit_own : (change : Edit) (s t : SetState) (r : Result (Unit {0}) Error) → Edits change s t r → IfErr r IsOwn
+pub edit_own : (change : Edit) (s t : SetState) (r : Result (Unit {0}) Error) → EditsOrOutOfMemory change s t r → IfErr r IsOwn
 edit_own change s t (Ok u) is = tt
 edit_own change s t (Err e) is = memory_own e is.0
 

@@ -5,14 +5,14 @@ use Rattle.std.proofs.lemmas.Bool.{both_ways}
 use Rattle.std.proofs.lemmas.Bool.Decides.{nat_tests}
 use Rattle.cfb_medium.specs.declared.error.Error.{Error}
 use Rattle.cfb_medium.specs.declared.medium.ReadMedium.{Ghosts}
-use Rattle.cfb_tree.specs.Names.{Letters}
+use Rattle.cfb_tree.specs.Names.{CaseTable}
 use Rattle.command_file.specs.Request as asked
 use Rattle.command_file.specs.Request.{Request, is_commit, is_roll_back}
-use Rattle.msi.specs.Opened.{PackageHolds}
+use Rattle.msi.specs.Opened.{PackageHasContent}
 use Rattle.msi_joined.proofs.Each.{each}
 use Rattle.msi_joined.specs.Joined.{joined_rows, InsertsEach}
-use Rattle.msi_meaning.specs.Calls.{change, Change, Ends, Inserts}
-use Rattle.msi_meaning.specs.Package.{Packed}
+use Rattle.msi_spec.specs.Calls.{change, Change, EndsRefusedOrBy, Inserts}
+use Rattle.msi_spec.specs.Package.{PackageContent}
 use Rattle.msi_values.specs.Datum.{Datum}
 use Rattle.staged.specs.declared.device.Device as device
 use Rattle.staged.specs.declared.staged.Staged.{Staged}
@@ -21,14 +21,14 @@ use Rattle.installer.proofs.Going.{step_of_sound}
 use Rattle.installer.proofs.Running.{follow_one}
 use Rattle.installer.proofs.Stopping.{survives_then}
 use Rattle.installer.specs.Behaviour.{Behaves, BehavesOnce, Condition}
-use Rattle.installer.specs.Course.{base_after, over, failed, fails, broken, unchanged, baseless, led, marks_as, refuses, rolls, running, stays, steps, Course, Goes, GoesBack, IsFault, IsUndone, Phase, Runs, StepAs}
-use Rattle.installer.specs.Follows.{FollowAll, Follows, GoesOnFrom}
+use Rattle.installer.specs.SessionStates.{base_after, over, failed, fails, broken, unchanged, baseless, led, marks_as, refuses, rolls, running, stays, steps, SessionState, CommandStep, SessionRollsBack, IsSessionFault, IsUndone, Phase, SessionRuns, StepAs}
+use Rattle.installer.specs.CommandRuns.{FollowAll, RunsCommand, ResumesFrom}
 use Rattle.installer.specs.Groups.{all_done, inserts_of}
 use Rattle.installer.specs.Reply.{Reply}
 use Rattle.installer.specs.Reply as told
-use Rattle.installer.specs.Sessions.{condition_of, device_below, is_failed, is_sound, letters_in, package_in, phase_of, StandsAt}
-use Rattle.installer.specs.Step.{told_of, Step}
-use Rattle.installer.specs.Survival.{Survives}
+use Rattle.installer.specs.Sessions.{condition_of, device_below, is_failed, is_sound, session_case_table, package_in, phase_of, SessionIsAt}
+use Rattle.installer.specs.Step.{told_of, PackageStep}
+use Rattle.installer.specs.CrashSurvival.{SurvivesCrash}
 use Rattle.installer.specs.declared.session.SessionOver.{SessionOver}
 
 pub never_both : (p : Phase) → p ≡ running → p ≡ failed → ⊥
@@ -42,24 +42,24 @@ other_rows old new name rows others reply b = record { ended = b.ended; live = b
 
 -- ---- all done
 
-module _ (letters : Letters) (name : List ℕ) (end : Course) (goes_on : end.phase ≡ running) (sound : end.sound ≡ true) where
-  abbrev with_held : Packed → Course
+module _ (letters : CaseTable) (name : List ℕ) (end : SessionState) (goes_on : end.phase ≡ running) (sound : end.sound ≡ true) where
+  abbrev with_held : PackageContent → SessionState
   with_held P = record end { held = P }
 
-  goes_to : (start : Course) (rows : List (List Datum)) (Mid : Packed) → start.phase ≡ running → end.sound ≡ start.sound → end.base ≡ start.base → start.failures ≤ end.failures
-      → Inserts start.held name rows Mid (Ok tt) → Goes letters start (asked.insert name rows) told.done (with_held Mid)
+  goes_to : (start : SessionState) (rows : List (List Datum)) (Mid : PackageContent) → start.phase ≡ running → end.sound ≡ start.sound → end.base ≡ start.base → start.failures ≤ end.failures
+      → Inserts start.held name rows Mid (Ok tt) → CommandStep letters start (asked.insert name rows) told.done (with_held Mid)
   goes_to start rows Mid was alike based fewer done =
       steps was (step_of_sound letters start.sound start.held Mid (asked.insert name rows) told.done (sym alike ∙ sound) (Ok tt, done, refl)) based goes_on alike fewer
 
-  no_marks : (b : Bool) (P : Packed) (rows : List (List Datum)) (reply : Reply) (left : Phase) → [] ≡ marks_as b P (asked.insert name rows) reply left ++ []
+  no_marks : (b : Bool) (P : PackageContent) (rows : List (List Datum)) (reply : Reply) (left : Phase) → [] ≡ marks_as b P (asked.insert name rows) reply left ++ []
   no_marks b P rows reply left = sym (ap (λ ms. ms ++ []) (marks_other b P (asked.insert name rows) reply left refl))
 
-  runs_on : (P : Packed) (groups : List (List (List Datum))) → InsertsEach P name groups end.held → Runs letters (with_held P) (inserts_of name groups) (all_done (inserts_of name groups)) [] end
+  runs_on : (P : PackageContent) (groups : List (List (List Datum))) → InsertsEach P name groups end.held → SessionRuns letters (with_held P) (inserts_of name groups) (all_done (inserts_of name groups)) [] end
   runs_on P [] is = (refl, ap with_held is)
   runs_on P (rows ∷ more) is = (with_held is.0, [], goes_to (with_held P) rows is.0 goes_on refl refl (omega arith) is.1, runs_on is.0 more is.2, no_marks end.sound P rows told.done end.phase)
 
-  runs_done : (start : Course) (rows : List (List Datum)) (more : List (List (List Datum))) → start.phase ≡ running → end.sound ≡ start.sound → end.base ≡ start.base → start.failures ≤ end.failures
-      → InsertsEach start.held name (rows ∷ more) end.held → Runs letters start (inserts_of name (rows ∷ more)) (all_done (inserts_of name (rows ∷ more))) [] end
+  runs_done : (start : SessionState) (rows : List (List Datum)) (more : List (List (List Datum))) → start.phase ≡ running → end.sound ≡ start.sound → end.base ≡ start.base → start.failures ≤ end.failures
+      → InsertsEach start.held name (rows ∷ more) end.held → SessionRuns letters start (inserts_of name (rows ∷ more)) (all_done (inserts_of name (rows ∷ more))) [] end
   runs_done start rows more was alike based fewer is =
       (with_held is.0, [], goes_to start rows is.0 was alike based fewer is.1, runs_on is.0 more is.2, no_marks start.sound start.held rows told.done end.phase)
 
@@ -88,22 +88,22 @@ done_so : (answer : Result (Unit {0}) Error) → told.done ≡ told_of answer �
 done_so (Ok u) is = refl
 done_so (Err e) is = absurd (cc is)
 
-refused_keeps : (P Q : Packed) (name : List ℕ) (rows : List (List Datum)) (e : Error) (answer : Result (Unit {0}) Error) → told.refused e ≡ told_of answer → Inserts P name rows Q answer → Q ≡ P
+refused_keeps : (P Q : PackageContent) (name : List ℕ) (rows : List (List Datum)) (e : Error) (answer : Result (Unit {0}) Error) → told.refused e ≡ told_of answer → Inserts P name rows Q answer → Q ≡ P
 refused_keeps P Q name rows e (Ok u) is inserts = absurd (cc is)
 refused_keeps P Q name rows e (Err f) is inserts = on (change P name _) _ inserts
   where
-    on : (r : Result Change Error) (Accepted : Change → Type 0) → Ends r P Q (Err f) Accepted → Q ≡ P
+    on : (r : Result Change Error) (Accepted : Change → Type 0) → EndsRefusedOrBy r P Q (Err f) Accepted → Q ≡ P
     on (Err d) Accepted ends = ends.0
     on (Ok x) Accepted ends = absurd (let never = ends.0 in cc never)
 
-as_sound : (letters : Letters) (b : Bool) (P Q : Packed) (request : Request) (reply : Reply) → b ≡ true → StepAs b letters P request reply Q → Step letters P request reply Q
+as_sound : (letters : CaseTable) (b : Bool) (P Q : PackageContent) (request : Request) (reply : Reply) → b ≡ true → StepAs b letters P request reply Q → PackageStep letters P request reply Q
 as_sound letters true P Q request reply is step = step
 as_sound letters false P Q request reply is step = absurd (cc is)
 
 -- ---- a course that goes on though failures were counted meanwhile
 
-module _ (letters : Letters) (start : Course) (n : ℕ) (fewer : start.failures ≤ n) where
-  abbrev later : Course
+module _ (letters : CaseTable) (start : SessionState) (n : ℕ) (fewer : start.failures ≤ n) where
+  abbrev later : SessionState
   later = record start { failures = n }
 
   rise : (end : ℕ) → n ≤ end → (n < 2 ^ 64 - 1 → n < end) → start.failures < 2 ^ 64 - 1 → start.failures < end
@@ -113,12 +113,12 @@ module _ (letters : Letters) (start : Course) (n : ℕ) (fewer : start.failures 
       on true is = (let few_yet : n < 2 ^ 64 - 1 = grind (arith, nat_tests, is) in let more_yet = rises few_yet in omega (arith, more_yet, fewer))
       on false is = (let many : 2 ^ 64 - 1 ≤ n = grind (arith, nat_tests, is) in omega (arith, many, few, more))
 
-  fault_before : (request : Request) (e : Error) (end : Course) → n ≤ end.failures → IsFault later request e end → IsFault start request e end
+  fault_before : (request : Request) (e : Error) (end : SessionState) → n ≤ end.failures → IsSessionFault later request e end → IsSessionFault start request e end
   fault_before request e end more (inl memory) = inl memory
   fault_before request e end more (inr (inl full)) = inr (inl full)
   fault_before request e end more (inr (inr device)) = inr (inr (device.0, rise end.failures more device.1))
 
-  undone_before : (request : Request) (e : Error) (end : Course) → n ≤ end.failures → IsUndone later request e end → IsUndone start request e end
+  undone_before : (request : Request) (e : Error) (end : SessionState) → n ≤ end.failures → IsUndone later request e end → IsUndone start request e end
   undone_before request e end more (inr much) = inr much
   undone_before request e end more (inl fault) = inl (fault_before request e end more fault)
 
@@ -126,7 +126,7 @@ module _ (letters : Letters) (start : Course) (n : ℕ) (fewer : start.failures 
   base_alike asked.commit told.done = refl
   base_alike request reply = refl
 
-  back_before : (reply : Reply) (end : Course) → start.phase ≡ running → GoesBack later reply end → GoesBack start reply end
+  back_before : (reply : Reply) (end : SessionState) → start.phase ≡ running → SessionRollsBack later reply end → SessionRollsBack start reply end
   back_before reply end was (led sound is some held same counted) = led sound is some held same (omega (arith, counted, fewer))
   back_before reply end was (unchanged sound phase is same counted) = unchanged sound was is same (omega (arith, counted, fewer))
   back_before reply end was (baseless sound none phase is same counted) = baseless sound none was is same (omega (arith, counted, fewer))
@@ -134,7 +134,7 @@ module _ (letters : Letters) (start : Course) (n : ℕ) (fewer : start.failures 
   back_before reply end was (broken e sound some is fit same counted) =
       broken e sound some is (λ B b f. fault_before asked.roll_back e end counted (fit B b f)) same (omega (arith, counted, fewer))
 
-  pub goes_before : (request : Request) (reply : Reply) (end : Course) → start.phase ≡ running → Goes letters later request reply end → Goes letters start request reply end
+  pub goes_before : (request : Request) (reply : Reply) (end : SessionState) → start.phase ≡ running → CommandStep letters later request reply end → CommandStep letters start request reply end
   goes_before request reply end was (steps phase step based after sound counted) = steps was step (based ∙ base_alike request reply) after sound (omega (arith, counted, fewer))
   goes_before request reply end was (stays e phase is undone page same counted) = stays e was is (undone_before request e end counted undone) page same (omega (arith, counted, fewer))
   goes_before request reply end was (fails e phase is undone reads same base counted) = fails e was is (undone_before request e end counted undone) reads same base (omega (arith, counted, fewer))
@@ -146,10 +146,10 @@ module _ (letters : Letters) (start : Course) (n : ℕ) (fewer : start.failures 
 module _ {D : Type 0} {g : device.Ghosts D} {h : Ghosts (Staged D g)} where
   -- nothing was changed, though failures of the device may have been counted
   pub record StandsStill (old mid : SessionOver (Staged D g) h) : Type 0 where
-    pub place : (start : Course) → StandsAt old start → (n : ℕ) × (start.failures ≤ n) × StandsAt mid (record start { failures = n }) × Survives (letters_in old) g (device_below old) (device_below mid) []
+    pub place : (start : SessionState) → SessionIsAt old start → (n : ℕ) × (start.failures ≤ n) × SessionIsAt mid (record start { failures = n }) × SurvivesCrash (session_case_table old) g (device_below old) (device_below mid) []
     pub live : is_failed old ≡ false
     pub live_yet : is_failed mid ≡ false
-    pub letters : letters_in mid ≡ letters_in old
+    pub letters : session_case_table mid ≡ session_case_table old
     pub is_sound_then : is_sound old ≡ true
     pub sound : is_sound mid ≡ is_sound old
     pub counted : (condition_of old).failures ≤ (condition_of mid).failures
@@ -173,7 +173,7 @@ module _ {D : Type 0} {g : device.Ghosts D} {h : Ghosts (Staged D g)} where
           on true is = (let few_yet : b < 2 ^ 64 - 1 = grind (arith, nat_tests, is) in let more_yet = three few_yet in omega (arith, more_yet, one))
           on false is = (let many : 2 ^ 64 - 1 ≤ b = grind (arith, nat_tests, is) in omega (arith, many, few, two))
 
-  was_running : (old : SessionOver (Staged D g) h) (start : Course) → is_failed old ≡ false → StandsAt old start → start.phase ≡ running
+  was_running : (old : SessionOver (Staged D g) h) (start : SessionState) → is_failed old ≡ false → SessionIsAt old start → start.phase ≡ running
   was_running old start live at = at.place.phase ∙ ap phase_of live
 
   stands_then : (old mid new : SessionOver (Staged D g) h) → StandsStill old mid → (requests : List Request) (replies : List Reply) → 0 < length requests → FollowAll requests replies mid new → FollowAll requests replies old new
@@ -183,13 +183,13 @@ module _ {D : Type 0} {g : device.Ghosts D} {h : Ghosts (Staged D g)} where
     ran = λ start at.
         let there = s.place start at in
         let on = all.ran (record start { failures = there.0 }) there.2 in
-        let runs = subst (λ (l : Letters). Runs l (record start { failures = there.0 }) (r ∷ rs) (p ∷ ps) on.1 on.0) s.letters on.2 in
-        let own = subst (λ (l : Letters). Survives l g (device_below mid) (device_below new) on.1) s.letters on.4 in (
+        let runs = subst (λ (l : CaseTable). SessionRuns l (record start { failures = there.0 }) (r ∷ rs) (p ∷ ps) on.1 on.0) s.letters on.2 in
+        let own = subst (λ (l : CaseTable). SurvivesCrash l g (device_below mid) (device_below new) on.1) s.letters on.4 in (
           on.0,
           on.1,
-          (runs.0, runs.1, goes_before (letters_in old) start there.0 there.1 r p runs.0 (was_running old start s.live at) runs.2, runs.3, runs.4),
+          (runs.0, runs.1, goes_before (session_case_table old) start there.0 there.1 r p runs.0 (was_running old start s.live at) runs.2, runs.3, runs.4),
           on.3,
-          survives_then (letters_in old) g (device_below old) (device_below mid) (device_below new) [] on.1 there.3 own,
+          survives_then (session_case_table old) g (device_below old) (device_below mid) (device_below new) [] on.1 there.3 own,
         );
     letters = all.letters ∙ s.letters;
     behaves = (let b = all.behaves in (b.0, behaves_before old mid s r p b.0 b.1, b.2));
@@ -199,26 +199,26 @@ module _ {D : Type 0} {g : device.Ghosts D} {h : Ghosts (Staged D g)} where
 
   -- so it is where a command has left the package
   pub stands_by : (old new : SessionOver (Staged D g) h) (request : Request) (reply : Reply) → is_failed old ≡ false → is_failed new ≡ false → is_sound old ≡ true → is_commit request ≡ false → is_roll_back request ≡ false
-      → Follows request reply old new
-      → ((start end : Course) → StandsAt old start → StandsAt new end → Goes (letters_in old) start request reply end → (start.failures ≤ end.failures) × (end.held ≡ start.held)) → StandsStill old new
+      → RunsCommand request reply old new
+      → ((start end : SessionState) → SessionIsAt old start → SessionIsAt new end → CommandStep (session_case_table old) start request reply end → (start.failures ≤ end.failures) × (end.held ≡ start.held)) → StandsStill old new
   stands_by old new request reply live lives sound other unrolled follows held = record {
     place = λ start at.
         let on = follows.goes start at in
-        let same = kept_quiet (letters_in old) start on.0 request reply other unrolled on.1 in
+        let same = kept_quiet (session_case_table old) start on.0 request reply other unrolled on.1 in
         let kept = held start on.0 at on.2 on.1 in (
           on.0.failures,
           kept.0,
           record {
             place = record {
               phase = was_running old start live at ∙ sym (ap phase_of lives);
-              held = λ _. subst (λ P. PackageHolds (package_in new) P) kept.1 (on.2.place.held (was_running new on.0 lives on.2));
+              held = λ _. subst (λ P. PackageHasContent (package_in new) P) kept.1 (on.2.place.held (was_running new on.0 lives on.2));
               failures = on.2.place.failures;
               sound = at.place.sound ∙ sym follows.sound;
             };
             based = ap is_some (sym same.0) ∙ on.2.based;
             base = λ is B b. on.2.base (same.1 ∙ is) B (same.0 ∙ b);
           },
-          subst (λ ms. Survives (letters_in old) g (device_below old) (device_below new) ms) (marks_other start.sound start.held request reply (phase_of (is_failed new)) other) (follows.survives start at),
+          subst (λ ms. SurvivesCrash (session_case_table old) g (device_below old) (device_below new) ms) (marks_other start.sound start.held request reply (phase_of (is_failed new)) other) (follows.survives start at),
         );
     live = live;
     live_yet = lives;
@@ -229,38 +229,38 @@ module _ {D : Type 0} {g : device.Ghosts D} {h : Ghosts (Staged D g)} where
   }
 
   module _ (old new : SessionOver (Staged D g) h) (name : List ℕ) (all : List (List Datum)) (live : is_failed old ≡ false) (sound : is_sound old ≡ true) where
-    no_marks_left : (reply : Reply) → Follows (asked.insert name all) reply old new → (start : Course) → StandsAt old start → Survives (letters_in old) g (device_below old) (device_below new) []
-    no_marks_left reply follows start at = subst (λ ms. Survives (letters_in old) g (device_below old) (device_below new) ms) (marks_other start.sound start.held (asked.insert name all) reply (phase_of (is_failed new)) refl) (follows.survives start at)
+    no_marks_left : (reply : Reply) → RunsCommand (asked.insert name all) reply old new → (start : SessionState) → SessionIsAt old start → SurvivesCrash (session_case_table old) g (device_below old) (device_below new) []
+    no_marks_left reply follows start at = subst (λ ms. SurvivesCrash (session_case_table old) g (device_below old) (device_below new) ms) (marks_other start.sound start.held (asked.insert name all) reply (phase_of (is_failed new)) refl) (follows.survives start at)
 
     -- ---- refused, and the session lives
 
-    held_yet : (e : Error) (start end : Course) → StandsAt old start → StandsAt new end → is_failed new ≡ false → Goes (letters_in old) start (asked.insert name all) (told.refused e) end → (start.failures ≤ end.failures) × (end.held ≡ start.held)
+    held_yet : (e : Error) (start end : SessionState) → SessionIsAt old start → SessionIsAt new end → is_failed new ≡ false → CommandStep (session_case_table old) start (asked.insert name all) (told.refused e) end → (start.failures ≤ end.failures) × (end.held ≡ start.held)
     held_yet e start end at there lives (steps phase step based after alike counted) =
-        let it = as_sound (letters_in old) start.sound start.held end.held (asked.insert name all) (told.refused e) (at.place.sound ∙ sound) step in
+        let it = as_sound (session_case_table old) start.sound start.held end.held (asked.insert name all) (told.refused e) (at.place.sound ∙ sound) step in
         (counted, refused_keeps start.held end.held name all e it.0 it.2 it.1)
-    held_yet e start end at there lives (stays f phase is undone page same counted) = (counted, ap (λ (c : Course). c.held) same)
-    held_yet e start end at there lives (fails f phase is undone reads same base counted) = absurd (never_both end.phase (was_running new end lives there) (ap (λ (c : Course). c.phase) same))
+    held_yet e start end at there lives (stays f phase is undone page same counted) = (counted, ap (λ (c : SessionState). c.held) same)
+    held_yet e start end at there lives (fails f phase is undone reads same base counted) = absurd (never_both end.phase (was_running new end lives there) (ap (λ (c : SessionState). c.phase) same))
     held_yet e start end at there lives (refuses phase other is same) = absurd (never_both start.phase (was_running old start live at) phase)
     held_yet e start end at there lives (rolls back goes) = absurd (cc back)
 
-    pub stands_still : (e : Error) → Follows (asked.insert name all) (told.refused e) old new → is_failed new ≡ false → StandsStill old new
+    pub stands_still : (e : Error) → RunsCommand (asked.insert name all) (told.refused e) old new → is_failed new ≡ false → StandsStill old new
     stands_still e follows lives =
         stands_by old new (asked.insert name all) (told.refused e) live lives sound refl refl follows (λ start end at there. held_yet e start end at there lives)
 
-    pub goes_on_from : (e : Error) → Follows (asked.insert name all) (told.refused e) old new → is_failed new ≡ false → GoesOnFrom old new
+    pub goes_on_from : (e : Error) → RunsCommand (asked.insert name all) (told.refused e) old new → is_failed new ≡ false → ResumesFrom old new
     goes_on_from e follows lives requests replies last some then = stands_then old new last (stands_still e follows lives) requests replies some then
 
     -- ---- the session has failed by it
 
-    goes_first : (e : Error) (rows : List (List Datum)) (start end : Course) → StandsAt new end → is_failed new ≡ true → start.phase ≡ running → Goes (letters_in old) start (asked.insert name all) (told.refused e) end
-        → Goes (letters_in old) start (asked.insert name rows) (told.refused e) end
+    goes_first : (e : Error) (rows : List (List Datum)) (start end : SessionState) → SessionIsAt new end → is_failed new ≡ true → start.phase ≡ running → CommandStep (session_case_table old) start (asked.insert name all) (told.refused e) end
+        → CommandStep (session_case_table old) start (asked.insert name rows) (told.refused e) end
     goes_first e rows start end there ended was (steps phase step based after alike counted) = absurd (never_both end.phase after (there.place.phase ∙ ap phase_of ended))
-    goes_first e rows start end there ended was (stays f phase is undone page same counted) = absurd (never_both end.phase (ap (λ (c : Course). c.phase) same ∙ was) (there.place.phase ∙ ap phase_of ended))
+    goes_first e rows start end there ended was (stays f phase is undone page same counted) = absurd (never_both end.phase (ap (λ (c : SessionState). c.phase) same ∙ was) (there.place.phase ∙ ap phase_of ended))
     goes_first e rows start end there ended was (fails f phase is undone reads same base counted) = fails f phase is undone refl same base counted
     goes_first e rows start end there ended was (refuses phase other is same) = refuses phase refl is same
     goes_first e rows start end there ended was (rolls back goes) = absurd (cc back)
 
-    pub first_fails : (e : Error) (rows : List (List Datum)) → Follows (asked.insert name all) (told.refused e) old new → is_failed new ≡ true → Follows (asked.insert name rows) (told.refused e) old new
+    pub first_fails : (e : Error) (rows : List (List Datum)) → RunsCommand (asked.insert name all) (told.refused e) old new → is_failed new ≡ true → RunsCommand (asked.insert name rows) (told.refused e) old new
     first_fails e rows follows ended = record {
       goes = λ start at. (let on = follows.goes start at in (on.0, goes_first e rows start on.0 on.2 ended (was_running old start live at) on.1, on.2));
       letters = follows.letters;
@@ -273,19 +273,19 @@ module _ {D : Type 0} {g : device.Ghosts D} {h : Ghosts (Staged D g)} where
   -- ---- done
 
   module _ (old new : SessionOver (Staged D g) h) (name : List ℕ) (rows : List (List Datum)) (more : List (List (List Datum))) (live : is_failed old ≡ false) (sound : is_sound old ≡ true) where
-    runs_all : (start end : Course) → StandsAt old start → Goes (letters_in old) start (asked.insert name (joined_rows (rows ∷ more))) told.done end
-        → Runs (letters_in old) start (inserts_of name (rows ∷ more)) (all_done (inserts_of name (rows ∷ more))) [] end
+    runs_all : (start end : SessionState) → SessionIsAt old start → CommandStep (session_case_table old) start (asked.insert name (joined_rows (rows ∷ more))) told.done end
+        → SessionRuns (session_case_table old) start (inserts_of name (rows ∷ more)) (all_done (inserts_of name (rows ∷ more))) [] end
     runs_all start end at (steps phase step based after alike counted) =
-        let it = as_sound (letters_in old) start.sound start.held end.held (asked.insert name (joined_rows (rows ∷ more))) told.done (at.place.sound ∙ sound) step in
+        let it = as_sound (session_case_table old) start.sound start.held end.held (asked.insert name (joined_rows (rows ∷ more))) told.done (at.place.sound ∙ sound) step in
         let inserts = subst (λ a. Inserts start.held name (joined_rows (rows ∷ more)) end.held a) (done_so it.0 it.2) it.1 in
         let texts = ((at.place.held phase).sound sound).1.counted in
-        runs_done (letters_in old) name end after (alike ∙ at.place.sound ∙ sound) start rows more phase alike based counted (each start.held texts name rows more end.held inserts)
+        runs_done (session_case_table old) name end after (alike ∙ at.place.sound ∙ sound) start rows more phase alike based counted (each start.held texts name rows more end.held inserts)
     runs_all start end at (stays e phase is undone page same counted) = absurd (cc is)
     runs_all start end at (fails e phase is undone reads same base counted) = absurd (cc is)
     runs_all start end at (refuses phase other is same) = absurd (cc is)
     runs_all start end at (rolls back goes) = absurd (cc back)
 
-    pub all_follow : Follows (asked.insert name (joined_rows (rows ∷ more))) told.done old new → FollowAll (inserts_of name (rows ∷ more)) (all_done (inserts_of name (rows ∷ more))) old new
+    pub all_follow : RunsCommand (asked.insert name (joined_rows (rows ∷ more))) told.done old new → FollowAll (inserts_of name (rows ∷ more)) (all_done (inserts_of name (rows ∷ more))) old new
     all_follow follows = record {
       ran = λ start at.
           let on = follows.goes start at in
@@ -302,15 +302,15 @@ heads : {X : Type 0} (x y : X) (xs ys : List X) → x ∷ xs ≡ y ∷ ys → x 
 heads x y xs ys is = cc is
 
 module _ {D : Type 0} {g : device.Ghosts D} {h : Ghosts (Staged D g)} {C : Type 0} (f : C → Request) (old new : SessionOver (Staged D g) h) (name : List ℕ) (all : List (List Datum)) (live : is_failed old ≡ false) (sound : is_sound old ≡ true) where
-  pub done_all : (commands : List C) (groups : List (List (List Datum))) → 0 < length commands → map f commands ≡ inserts_of name groups → all ≡ joined_rows groups → Follows (asked.insert name all) told.done old new
+  pub done_all : (commands : List C) (groups : List (List (List Datum))) → 0 < length commands → map f commands ≡ inserts_of name groups → all ≡ joined_rows groups → RunsCommand (asked.insert name all) told.done old new
       → FollowAll (map f commands) (all_done (map f commands)) old new
   done_all [] groups some are is follows = absurd (omega (arith, some))
   done_all (c ∷ cs) [] some are is follows = absurd (cc are)
   done_all (c ∷ cs) (rows ∷ more) some are is follows =
-      let one = subst (λ l. Follows (asked.insert name l) told.done old new) is follows in
+      let one = subst (λ l. RunsCommand (asked.insert name l) told.done old new) is follows in
       subst (λ requests. FollowAll requests (all_done requests) old new) (sym are) (all_follow old new name rows more live sound one)
 
-  pub first_failed : (e : Error) (commands : List C) (groups : List (List (List Datum))) → 0 < length commands → map f commands ≡ inserts_of name groups → Follows (asked.insert name all) (told.refused e) old new → is_failed new ≡ true
+  pub first_failed : (e : Error) (commands : List C) (groups : List (List (List Datum))) → 0 < length commands → map f commands ≡ inserts_of name groups → RunsCommand (asked.insert name all) (told.refused e) old new → is_failed new ≡ true
       → FollowAll (map f (take 1 commands)) (told.refused e ∷ []) old new
   first_failed e [] groups some are follows ended = absurd (omega (arith, some))
   first_failed e (c ∷ cs) [] some are follows ended = absurd (cc are)

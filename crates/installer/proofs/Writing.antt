@@ -2,48 +2,48 @@
 use Rattle.std.proofs.Common.{◌≡◌, ◌∙◌, Bool, ap, false, inl, inr, refl, subst, sym, true, ⊎_elim}
 use Rattle.std.specs.Prelude.{Err, IfErr, Ok, Result}
 use Rattle.cfb.specs.Publishing.{medium_in}
-use Rattle.cfb.specs.Views.{letters_in, mini_of}
-use Rattle.cfb_fat.specs.Tables.{version_of, HasCauseBelow}
+use Rattle.cfb.specs.Views.{file_case_table, mini_of}
+use Rattle.cfb_fat.specs.Tables.{version_of, IsJustifiedBySectors}
 use Rattle.cfb_medium.specs.Versions.{stream_len_mask}
 use Rattle.cfb_medium.specs.declared.error.Error.{Error}
 use Rattle.cfb_medium.specs.declared.medium.ReadMedium.{Ghosts}
 use Rattle.cfb_medium.specs.declared.version.Version.{Version}
 use Rattle.cfb_mini.specs.Views.{allocator_of}
-use Rattle.cfb_tree.specs.Names.{Letters}
+use Rattle.cfb_tree.specs.Names.{CaseTable}
 use Rattle.command_file.specs.Request.{Request}
 use Rattle.command_file.specs.Request as asked
 use Rattle.msi.specs.Changing.{failed_in, IsUnsaved, KeepsHeld, PackageWrites}
-use Rattle.msi.specs.Opened.{file_in, summary_in, PackageHolds}
+use Rattle.msi.specs.Opened.{file_in, summary_in, PackageHasContent}
 use Rattle.msi.specs.declared.package.Package.{Package}
-use Rattle.msi_meaning.specs.Package.{Packed}
+use Rattle.msi_spec.specs.Package.{PackageContent}
 use Rattle.msi_streams.specs.Parts.{IsTooLong}
 use Rattle.installer.proofs.Faults.{fault_of}
 use Rattle.installer.proofs.Going.{by_sound, undone, goes_told, Leads, Moves}
-use Rattle.installer.specs.Course.{Course, IsTooMuch, IsUndone, StepAs, takes_room}
+use Rattle.installer.specs.SessionStates.{SessionState, IsTooMuch, IsUndone, StepAs, takes_room}
 use Rattle.installer.specs.Reply as told
 use Rattle.installer.specs.Sessions.{phase_of, IsAt}
 use Rattle.installer.specs.Step.{told_of}
 
 -- both leave the package
-pub step_flush : (letters : Letters) (sound : Bool) (P : Packed) → StepAs sound letters P asked.flush told.done P
+pub step_flush : (letters : CaseTable) (sound : Bool) (P : PackageContent) → StepAs sound letters P asked.flush told.done P
 step_flush letters true P = (refl, refl)
 step_flush letters false P = (refl, refl)
 
-pub step_commit : (letters : Letters) (sound : Bool) (P : Packed) → StepAs sound letters P asked.commit told.done P
+pub step_commit : (letters : CaseTable) (sound : Bool) (P : PackageContent) → StepAs sound letters P asked.commit told.done P
 step_commit letters true P = (refl, refl)
 step_commit letters false P = (refl, refl)
 
 pub not_err : {e : Error} → ◌≡◌ {A = Result (Unit {0}) Error} (Err e) (Ok tt) → ⊥
 not_err is = cc
 
-module _ {F : Type 0} {g : Ghosts F} (refl_continues : (m : F) → g.continues m m) (old new : Package F g) (start : Course) (at : IsAt old start) (live : failed_in old ≡ false) where
-  abbrev holds : PackageHolds old start.held
+module _ {F : Type 0} {g : Ghosts F} (refl_continues : (m : F) → g.continues m m) (old new : Package F g) (start : SessionState) (at : IsAt old start) (live : failed_in old ≡ false) where
+  abbrev holds : PackageHasContent old start.held
   holds = at.held (at.phase ∙ ap phase_of live)
 
   -- what can't be saved is a fault, or too much
   pub unsaved : (request : Request) (room : takes_room request ≡ true) (much : ((v : Version) × IsTooLong (stream_len_mask v) start.held.pool start.held.summary) → IsTooMuch start.held request) (e : Error)
-      → HasCauseBelow (allocator_of (mini_of (file_in old))) (allocator_of (mini_of (file_in new))) e → IsUnsaved old new e
-      → (end : Course) → end.failures ≡ g.failures (medium_in (file_in new)) → IsUndone start request e end
+      → IsJustifiedBySectors (allocator_of (mini_of (file_in old))) (allocator_of (mini_of (file_in new))) e → IsUnsaved old new e
+      → (end : SessionState) → end.failures ≡ g.failures (medium_in (file_in new)) → IsUndone start request e end
   unsaved request room much e cause is end last = ⊎_elim
       (λ fault. inl (fault_of refl_continues old new start end request e (λ _. room) live at.failures last cause fault))
       (λ long. inr (
@@ -57,13 +57,13 @@ module _ {F : Type 0} {g : Ghosts F} (refl_continues : (m : F) → g.continues m
 
   -- nothing was touched
   pub untouched : new ≡ old → KeepsHeld old new
-  untouched same = record { holds = λ P h. subst (λ it. PackageHolds it P) (sym same) h }
+  untouched same = record { holds = λ P h. subst (λ it. PackageHasContent it P) (sym same) h }
 
-  pub goes_writes : (result : Result (Unit {0}) Error) → Moves old new → PackageWrites result old new → IfErr result (HasCauseBelow (allocator_of (mini_of (file_in old))) (allocator_of (mini_of (file_in new))))
-      → Leads new (letters_in (file_in old)) start asked.flush (told_of result)
+  pub goes_writes : (result : Result (Unit {0}) Error) → Moves old new → PackageWrites result old new → IfErr result (IsJustifiedBySectors (allocator_of (mini_of (file_in old))) (allocator_of (mini_of (file_in new))))
+      → Leads new (file_case_table (file_in old)) start asked.flush (told_of result)
   goes_writes (Ok u) moves writes cause = goes_told refl_continues old new start at live moves asked.flush told.done refl
       (⊎_elim (λ sound. record { holds = λ P h. writes.holds P h (sym at.sound ∙ sound) }) (λ unsound. untouched (writes.unsound live (sym at.sound ∙ unsound)).1) (by_sound start.sound))
-      (step_flush (letters_in (file_in old)) start.sound start.held)
+      (step_flush (file_case_table (file_in old)) start.sound start.held)
   goes_writes (Err e) moves writes cause = ⊎_elim
       (λ sound. undone old new start at live moves.counted moves.sound asked.flush e refl (unsaved asked.flush refl (λ is. is) e cause (writes.refused start.held holds (sym at.sound ∙ sound))) writes.rests)
       (λ unsound. absurd (not_err (writes.unsound live (sym at.sound ∙ unsound)).0)) (by_sound start.sound)

@@ -4,10 +4,10 @@ use Rattle.cfb_medium.specs.declared.error.Error.{Error}
 use Rattle.cfb_medium.specs.declared.error.Error.TheVariants.{Device, Failed, Full, InvalidInput, Memory}
 use Rattle.command_file.specs.Request.{Request, is_roll_back, is_writing}
 use Rattle.command_file.specs.Request as command
-use Rattle.cfb_meaning.specs.TreeRules.{Object}
-use Rattle.msi.specs.Changing.{PackageIsFit}
-use Rattle.msi_meaning.specs.Package.{Packed}
-use Rattle.installer.specs.Course.{Course, Mark}
+use Rattle.cfb_spec.specs.TreeRules.{Object}
+use Rattle.msi.specs.Changing.{PackageCanBeWritten}
+use Rattle.msi_spec.specs.Package.{PackageContent}
+use Rattle.installer.specs.SessionStates.{SessionState, BegunCommit}
 use Rattle.installer.specs.Reply.{Reply}
 use Rattle.installer.specs.Reply as told
 
@@ -43,10 +43,10 @@ GoOn [] = Unit {0}
 GoOn (request ∷ requests) = (is_roll_back request ≡ false) × GoOn requests
 
 -- each package of these commits can be written as it is
-abbrev pub AreFit : List Mark → Type 0
+abbrev pub AreFit : List BegunCommit → Type 0
 AreFit [] = Unit {0}
-AreFit (mark ∷ marks) = PackageIsFit mark.held × AreFit marks
+AreFit (mark ∷ marks) = PackageCanBeWritten mark.held × AreFit marks
 
 -- the package to which a roll back leads can be written as it is, and has these storages
-abbrev pub IsBasedOn : List Object → Course → Type 0
-IsBasedOn storages course = course.sound ≡ true → (B : Packed) → course.base ≡ Some B → PackageIsFit B × (B.storages ≡ storages)
+abbrev pub IsBasedOn : List Object → SessionState → Type 0
+IsBasedOn storages course = course.sound ≡ true → (B : PackageContent) → course.base ≡ Some B → PackageCanBeWritten B × (B.storages ≡ storages)

@@ -19,7 +19,7 @@ use std::alloc::Global;
 /// Copies of columns. The one error is `Memory`.
 pub(crate) fn copies_of(alloc: Global, columns: &[Column]) -> Result<Vec<Column>, Error>
     ensures copies { IfOk result (λ copies. columns_of copies.items ≡ columns_of columns.now) }
-    ensures kinds { IfErr result (λ e. e ≡ Memory) }
+    ensures errors { IfErr result (λ e. e ≡ Memory) }
 {
     let mut copies = Vec::new(alloc);
     for column in columns {
@@ -34,7 +34,7 @@ pub(crate) fn copies_of_properties(
     properties: &[(u32, PropertyValue)],
 ) -> Result<Vec<(u32, PropertyValue)>, Error>
     ensures copies { IfOk result (λ copies. map pair_in copies.items ≡ map pair_in properties.now) }
-    ensures kinds { IfErr result (λ e. e ≡ Memory) }
+    ensures errors { IfErr result (λ e. e ≡ Memory) }
 {
     let mut copies = Vec::new(alloc);
     for property in properties {
@@ -47,7 +47,7 @@ pub(crate) fn copies_of_properties(
 pub(crate) fn names_of_tables(alloc: Global, tables: Tables) -> Result<Vec<String>, Error>
     ensures names { IfOk result (λ names. map string_bytes names.items
         ≡ map string_bytes (tables_left tables)) }
-    ensures kinds { IfErr result (λ e. e ≡ Memory) }
+    ensures errors { IfErr result (λ e. e ≡ Memory) }
 {
     let mut names = Vec::new(alloc);
     for name in tables {
@@ -60,7 +60,7 @@ pub(crate) fn names_of_tables(alloc: Global, tables: Tables) -> Result<Vec<Strin
 pub(crate) fn names_of_streams(alloc: Global, streams: Streams) -> Result<Vec<String>, Error>
     ensures names { IfOk result (λ names. map string_bytes names.items
         ≡ map string_bytes (streams_left streams)) }
-    ensures kinds { IfErr result (λ e. e ≡ Memory) }
+    ensures errors { IfErr result (λ e. e ≡ Memory) }
 {
     let mut names = Vec::new(alloc);
     for name in streams {
@@ -74,11 +74,11 @@ pub(crate) fn values_of_rows(
     alloc: Global,
     rows: Rows,
 ) -> Result<(Vec<String>, Vec<Vec<Value>>), Error>
-    ensures told { IfOk result (λ told. (
+    ensures answer { IfOk result (λ told. (
       map string_bytes told.0.items,
       map (λ row. data_of row.items) told.1.items,
     ) ≡ rows_shown rows) }
-    ensures kinds { IfErr result (λ e. e ≡ Memory) }
+    ensures errors { IfErr result (λ e. e ≡ Memory) }
 {
     let names = names_of_columns(alloc, rows.columns())?;
     Ok((names, all_values(alloc, rows)?))
@@ -88,7 +88,7 @@ pub(crate) fn values_of_rows(
 fn names_of_columns(alloc: Global, columns: &[Column]) -> Result<Vec<String>, Error>
     ensures names { IfOk result (λ names. map string_bytes names.items
         ≡ map (λ c. c.name) (columns_of columns.now)) }
-    ensures kinds { IfErr result (λ e. e ≡ Memory) }
+    ensures errors { IfErr result (λ e. e ≡ Memory) }
 {
     let mut names = Vec::new(alloc);
     for column in columns {
@@ -101,7 +101,7 @@ fn names_of_columns(alloc: Global, columns: &[Column]) -> Result<Vec<String>, Er
 fn all_values(alloc: Global, rows: Rows) -> Result<Vec<Vec<Value>>, Error>
     ensures values { IfOk result (λ values. map (λ row. data_of row.items) values.items
         ≡ map (λ row. row.values) (rows_left rows)) }
-    ensures kinds { IfErr result (λ e. e ≡ Memory) }
+    ensures errors { IfErr result (λ e. e ≡ Memory) }
 {
     let mut values = Vec::new(alloc);
     for row in rows {
@@ -113,7 +113,7 @@ fn all_values(alloc: Global, rows: Rows) -> Result<Vec<Vec<Value>>, Error>
 // The values of a row.
 fn values_of(alloc: Global, row: &Row) -> Result<Vec<Value>, Error>
     ensures values { IfOk result (λ values. data_of values.items ≡ row.now.values) }
-    ensures kinds { IfErr result (λ e. e ≡ Memory) }
+    ensures errors { IfErr result (λ e. e ≡ Memory) }
 {
     let mut values = Vec::new(alloc);
     for index in 0..row.len() {

@@ -1,7 +1,7 @@
 //! Edits of a summary.
 ghost use Rattle.cfb_medium.specs.Times.{units_of};
-ghost use Rattle.command_file.specs.Said.{edit_said, text_said};
-ghost use Rattle.msi_summary.specs.Edits.{Edits};
+ghost use Rattle.command_file.specs.RequestsOf.{edit_said, text_said};
+ghost use Rattle.msi_summary.specs.Edits.{EditsOrOutOfMemory};
 ghost use Rattle.msi_summary.specs.Summary.{set_arch, set_keywords, set_languages, set_number, set_text, set_time};
 ghost use Rattle.std.specs.Prelude.{map, option_map, string_bytes};
 ghost use Rattle.uuid.specs.Text.{braced_text, upper};
@@ -14,7 +14,7 @@ use uuid::Uuid;
 
 /// Makes an edit of a summary. After an error, which is `Memory`, nothing is changed.
 pub(crate) fn apply_edit(summary: &mut SummaryInfo, change: &SummaryEdit) -> Result<(), Error>
-    ensures { Edits (edit_said change.now) summary.old summary.new result }
+    ensures { EditsOrOutOfMemory (edit_said change.now) summary.old summary.new result }
 {
     match change {
         SummaryEdit::Title(text) => put_title(summary, text),
@@ -39,7 +39,7 @@ pub(crate) fn apply_edit(summary: &mut SummaryInfo, change: &SummaryEdit) -> Res
 }
 
 fn put_title(summary: &mut SummaryInfo, text: &Option<String>) -> Result<(), Error>
-    ensures { Edits (set_text 2 (text_said text.now)) summary.old summary.new result }
+    ensures { EditsOrOutOfMemory (set_text 2 (text_said text.now)) summary.old summary.new result }
 {
     match text {
         Some(text) => summary.set_title(text),
@@ -51,7 +51,7 @@ fn put_title(summary: &mut SummaryInfo, text: &Option<String>) -> Result<(), Err
 }
 
 fn put_subject(summary: &mut SummaryInfo, text: &Option<String>) -> Result<(), Error>
-    ensures { Edits (set_text 3 (text_said text.now)) summary.old summary.new result }
+    ensures { EditsOrOutOfMemory (set_text 3 (text_said text.now)) summary.old summary.new result }
 {
     match text {
         Some(text) => summary.set_subject(text),
@@ -63,7 +63,7 @@ fn put_subject(summary: &mut SummaryInfo, text: &Option<String>) -> Result<(), E
 }
 
 fn put_author(summary: &mut SummaryInfo, text: &Option<String>) -> Result<(), Error>
-    ensures { Edits (set_text 4 (text_said text.now)) summary.old summary.new result }
+    ensures { EditsOrOutOfMemory (set_text 4 (text_said text.now)) summary.old summary.new result }
 {
     match text {
         Some(text) => summary.set_author(text),
@@ -75,7 +75,7 @@ fn put_author(summary: &mut SummaryInfo, text: &Option<String>) -> Result<(), Er
 }
 
 fn put_comments(summary: &mut SummaryInfo, text: &Option<String>) -> Result<(), Error>
-    ensures { Edits (set_text 6 (text_said text.now)) summary.old summary.new result }
+    ensures { EditsOrOutOfMemory (set_text 6 (text_said text.now)) summary.old summary.new result }
 {
     match text {
         Some(text) => summary.set_comments(text),
@@ -87,7 +87,7 @@ fn put_comments(summary: &mut SummaryInfo, text: &Option<String>) -> Result<(), 
 }
 
 fn put_last_saved_by(summary: &mut SummaryInfo, text: &Option<String>) -> Result<(), Error>
-    ensures { Edits (set_text 8 (text_said text.now)) summary.old summary.new result }
+    ensures { EditsOrOutOfMemory (set_text 8 (text_said text.now)) summary.old summary.new result }
 {
     match text {
         Some(text) => summary.set_last_saved_by(text),
@@ -99,7 +99,7 @@ fn put_last_saved_by(summary: &mut SummaryInfo, text: &Option<String>) -> Result
 }
 
 fn put_creating_application(summary: &mut SummaryInfo, text: &Option<String>) -> Result<(), Error>
-    ensures { Edits (set_text 18 (text_said text.now)) summary.old summary.new result }
+    ensures { EditsOrOutOfMemory (set_text 18 (text_said text.now)) summary.old summary.new result }
 {
     match text {
         Some(text) => summary.set_creating_application(text),
@@ -111,7 +111,8 @@ fn put_creating_application(summary: &mut SummaryInfo, text: &Option<String>) ->
 }
 
 fn put_keywords(summary: &mut SummaryInfo, keywords: &Option<Vec<String>>) -> Result<(), Error>
-    ensures { Edits (set_keywords (option_map (λ texts. map string_bytes texts.items) keywords.now))
+    ensures { EditsOrOutOfMemory
+        (set_keywords (option_map (λ texts. map string_bytes texts.items) keywords.now))
         summary.old summary.new result }
 {
     match keywords {
@@ -121,7 +122,7 @@ fn put_keywords(summary: &mut SummaryInfo, keywords: &Option<Vec<String>>) -> Re
 }
 
 fn put_arch(summary: &mut SummaryInfo, text: &Option<String>) -> Result<(), Error>
-    ensures { Edits (set_arch (text_said text.now)) summary.old summary.new result }
+    ensures { EditsOrOutOfMemory (set_arch (text_said text.now)) summary.old summary.new result }
 {
     match text {
         Some(text) => summary.set_arch(text),
@@ -133,7 +134,7 @@ fn put_languages(
     summary: &mut SummaryInfo,
     languages: &Option<Vec<LanguageId>>,
 ) -> Result<(), Error>
-    ensures { Edits (set_languages (option_map (λ ids. ids.items) languages.now))
+    ensures { EditsOrOutOfMemory (set_languages (option_map (λ ids. ids.items) languages.now))
         summary.old summary.new result }
 {
     match languages {
@@ -143,7 +144,7 @@ fn put_languages(
 }
 
 fn put_uuid(summary: &mut SummaryInfo, uuid: Option<Uuid>) -> Result<(), Error>
-    ensures { Edits (set_text 9 (option_map (braced_text upper) uuid))
+    ensures { EditsOrOutOfMemory (set_text 9 (option_map (braced_text upper) uuid))
         summary.old summary.new result }
 {
     match uuid {
@@ -156,7 +157,7 @@ fn put_uuid(summary: &mut SummaryInfo, uuid: Option<Uuid>) -> Result<(), Error>
 }
 
 fn put_page_count(summary: &mut SummaryInfo, number: Option<i32>) -> Result<(), Error>
-    ensures { Edits (set_number 14 number) summary.old summary.new result }
+    ensures { EditsOrOutOfMemory (set_number 14 number) summary.old summary.new result }
 {
     match number {
         Some(number) => summary.set_page_count(number),
@@ -168,7 +169,7 @@ fn put_page_count(summary: &mut SummaryInfo, number: Option<i32>) -> Result<(), 
 }
 
 fn put_word_count(summary: &mut SummaryInfo, number: Option<i32>) -> Result<(), Error>
-    ensures { Edits (set_number 15 number) summary.old summary.new result }
+    ensures { EditsOrOutOfMemory (set_number 15 number) summary.old summary.new result }
 {
     match number {
         Some(number) => summary.set_word_count(number),
@@ -180,7 +181,7 @@ fn put_word_count(summary: &mut SummaryInfo, number: Option<i32>) -> Result<(), 
 }
 
 fn put_character_count(summary: &mut SummaryInfo, number: Option<i32>) -> Result<(), Error>
-    ensures { Edits (set_number 16 number) summary.old summary.new result }
+    ensures { EditsOrOutOfMemory (set_number 16 number) summary.old summary.new result }
 {
     match number {
         Some(number) => summary.set_character_count(number),
@@ -192,7 +193,7 @@ fn put_character_count(summary: &mut SummaryInfo, number: Option<i32>) -> Result
 }
 
 fn put_doc_security(summary: &mut SummaryInfo, number: Option<i32>) -> Result<(), Error>
-    ensures { Edits (set_number 19 number) summary.old summary.new result }
+    ensures { EditsOrOutOfMemory (set_number 19 number) summary.old summary.new result }
 {
     match number {
         Some(number) => summary.set_doc_security(number),
@@ -204,7 +205,8 @@ fn put_doc_security(summary: &mut SummaryInfo, number: Option<i32>) -> Result<()
 }
 
 fn put_last_printed(summary: &mut SummaryInfo, moment: Option<Timestamp>) -> Result<(), Error>
-    ensures { Edits (set_time 11 (option_map units_of moment)) summary.old summary.new result }
+    ensures { EditsOrOutOfMemory
+        (set_time 11 (option_map units_of moment)) summary.old summary.new result }
 {
     match moment {
         Some(moment) => summary.set_last_printed(moment),
@@ -216,7 +218,8 @@ fn put_last_printed(summary: &mut SummaryInfo, moment: Option<Timestamp>) -> Res
 }
 
 fn put_creation_time(summary: &mut SummaryInfo, moment: Option<Timestamp>) -> Result<(), Error>
-    ensures { Edits (set_time 12 (option_map units_of moment)) summary.old summary.new result }
+    ensures { EditsOrOutOfMemory
+        (set_time 12 (option_map units_of moment)) summary.old summary.new result }
 {
     match moment {
         Some(moment) => summary.set_creation_time(moment),
@@ -228,7 +231,8 @@ fn put_creation_time(summary: &mut SummaryInfo, moment: Option<Timestamp>) -> Re
 }
 
 fn put_last_saved_time(summary: &mut SummaryInfo, moment: Option<Timestamp>) -> Result<(), Error>
-    ensures { Edits (set_time 13 (option_map units_of moment)) summary.old summary.new result }
+    ensures { EditsOrOutOfMemory
+        (set_time 13 (option_map units_of moment)) summary.old summary.new result }
 {
     match moment {
         Some(moment) => summary.set_last_save_time(moment),

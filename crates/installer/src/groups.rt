@@ -1,10 +1,10 @@
 //! Commands in order, of which inserts into one table that follow one another are carried out as one.
 ghost use Rattle.command_file.specs.Request as asked;
-ghost use Rattle.command_file.specs.Said.{said};
-ghost use Rattle.installer.specs.Follows.{AreAnswered, FollowAll, GoesOnFrom};
+ghost use Rattle.command_file.specs.RequestsOf.{request_of};
+ghost use Rattle.installer.specs.CommandRuns.{AreAnswered, FollowAll, ResumesFrom};
 ghost use Rattle.installer.specs.Groups.{all_done, inserts_of};
 ghost use Rattle.installer.specs.Reply as told;
-ghost use Rattle.installer.specs.Said.{told_by};
+ghost use Rattle.installer.specs.RepliesOf.{reply_of};
 ghost use Rattle.msi_changes.specs.Said.{insert_name, insert_rows};
 ghost use Rattle.msi_joined.specs.Joined.{joined_rows};
 ghost use Rattle.msi_values.specs.Datum.{Datum};
@@ -23,7 +23,7 @@ use std::alloc::Global;
 // no memory.
 fn with_rows_of(alloc: Global, insert: Insert, command: &Command) -> Option<Insert>
     ensures { IfSome result (λ all. (rows : List (List Datum))
-        × (said command.now ≡ asked.insert (insert_name insert) rows)
+        × (request_of command.now ≡ asked.insert (insert_name insert) rows)
         × (insert_name all ≡ insert_name insert)
         × (insert_rows all ≡ insert_rows insert ++ rows)) }
 {
@@ -44,7 +44,7 @@ fn with_rows_of(alloc: Global, insert: Insert, command: &Command) -> Option<Inse
 // The commands as one insert into the table of this name. None where one is no insert into it, or where there is no memory.
 fn joined_insert(alloc: Global, name: &str, commands: &[Command]) -> Option<Insert>
     ensures { IfSome result (λ insert. (groups : List (List (List Datum)))
-        × (map said commands.now ≡ inserts_of (insert_name insert) groups)
+        × (map request_of commands.now ≡ inserts_of (insert_name insert) groups)
         × (insert_rows insert ≡ joined_rows groups)) }
 {
     let mut all = match Insert::into(alloc, name) {
@@ -118,8 +118,8 @@ fn push_done(commands: &[Command], answers: &mut Vec<Answer>)
     requires room { vec_len answers.old + length commands.now ≤ vec_capacity answers.old }
     ensures capacity { vec_capacity answers.new ≡ vec_capacity answers.old }
     ensures len { vec_len answers.new ≡ vec_len answers.old + length commands.now }
-    ensures done { map told_by answers.new.items
-        ≡ map told_by answers.old.items ++ all_done (map said commands.now) }
+    ensures done { map reply_of answers.new.items
+        ≡ map reply_of answers.old.items ++ all_done (map request_of commands.now) }
 {
     for _ in commands {
         answers.push_reserved(Answer::Done);
@@ -134,8 +134,8 @@ impl<D: Device> SessionOver<Staged<D>> {
         requires room { vec_len answers.old + length commands.now ≤ vec_capacity answers.old }
         ensures capacity { vec_capacity answers.new ≡ vec_capacity answers.old }
         ensures len { vec_len answers.new ≡ vec_len answers.old + length commands.now }
-        ensures ran { AreAnswered (map said commands.now) (map told_by answers.old.items)
-            (map told_by answers.new.items) self.old self.new }
+        ensures ran { AreAnswered (map request_of commands.now) (map reply_of answers.old.items)
+            (map reply_of answers.new.items) self.old self.new }
     {
         if commands.is_empty() {
             return;
@@ -164,9 +164,10 @@ impl<D: Device> SessionOver<Staged<D>> {
     fn insert_all(&mut self, commands: &[Command]) -> Result<bool, Error>
         requires some { 0 < length commands.now }
         ensures done { IfOk result (λ done. MatchBool done
-            (FollowAll (map said commands.now) (all_done (map said commands.now)) self.old self.new)
-            (GoesOnFrom self.old self.new)) }
-        ensures failed { IfErr result (λ e. FollowAll (map said (take 1 commands.now))
+            (FollowAll (map request_of commands.now)
+            (all_done (map request_of commands.now)) self.old self.new)
+            (ResumesFrom self.old self.new)) }
+        ensures when_failed { IfErr result (λ e. FollowAll (map request_of (take 1 commands.now))
             (told.refused e ∷ []) self.old self.new) }
     {
         if self.has_failed() {

@@ -1,11 +1,11 @@
 //! The law over all that can happen to a device.
 ghost use Rattle.std.specs.Prelude.{◌≡◌, ◌≤◌, List, [], IsTrue};
-ghost use Rattle.cfb_medium.specs.Stops.{LeavesOnly};
-ghost use Rattle.cfb_tree.specs.Names.{Letters};
-ghost use Rattle.installer.specs.Course.{Mark};
-ghost use Rattle.installer.specs.Survival.{MayBeFound, Survives, AllGive, AnyList, gives, listed};
-ghost use Rattle.staged.specs.Settled.{IsSettled};
-ghost use Rattle.staged.specs.Steps.{GivesAlike};
+ghost use Rattle.cfb_medium.specs.Crashes.{CrashLeavesOnly};
+ghost use Rattle.cfb_tree.specs.Names.{CaseTable};
+ghost use Rattle.installer.specs.SessionStates.{BegunCommit};
+ghost use Rattle.installer.specs.CrashSurvival.{MayBeRecovered, SurvivesCrash, AllGive, AnyList, gives, listed};
+ghost use Rattle.staged.specs.Committed.{IsLogClosed};
+ghost use Rattle.staged.specs.Steps.{RecoversAlike};
 ghost use Rattle.installer.specs.History.{Event, Happen};
 
 use staged::Device;
@@ -16,22 +16,23 @@ use staged::Device;
 /// written as it is; or, where none was answered `Ok`, a list that it might have given at first. After a recovery that succeeded the home
 /// file is such a list.
 pub fn committed_packages_survive<D: Device>()
-    ensures survive { (letters : Letters) (first : D) (events : List (Event letters D.Device))
-        (marks : List Mark) (last : D)
+    ensures survive { (letters : CaseTable) (first : D) (events : List (Event letters D.Device))
+        (marks : List BegunCommit) (last : D)
         → IsTrue (D.honest first) → AllGive AnyList (gives D.Device first)
         → Happen letters D.Device first events marks last
-        → AllGive (MayBeFound letters (listed D.Device first) marks) (gives D.Device last) }
-    ensures home { (letters : Letters) (first : D) (events : List (Event letters D.Device))
-        (marks : List Mark) (last : D)
+        → AllGive (MayBeRecovered letters (listed D.Device first) marks) (gives D.Device last) }
+    ensures home { (letters : CaseTable) (first : D) (events : List (Event letters D.Device))
+        (marks : List BegunCommit) (last : D)
         → IsTrue (D.honest first) → AllGive AnyList (gives D.Device first)
-        → Happen letters D.Device first events marks last → IsSettled D.Device last
-        → MayBeFound letters (listed D.Device first) marks (D.content last).home }
+        → Happen letters D.Device first events marks last → IsLogClosed D.Device last
+        → MayBeRecovered letters (listed D.Device first) marks (D.content last).home }
 {}
 
 /// A recovery is an event of that law, whatever it answers: what its contract says of honesty, failures and stops is all that it takes.
 pub fn recoveries_survive<D: Device>()
-    ensures { (letters : Letters) (old new : D) → D.honest new ≡ D.honest old
+    ensures { (letters : CaseTable) (old new : D) → D.honest new ≡ D.honest old
         → D.failures old ≤ D.failures new → (IsTrue (D.honest old)
-        → LeavesOnly D.moment D.left_since old new (GivesAlike (D.may_leave old)))
-        → Survives letters D.Device old new [] }
+        → CrashLeavesOnly D.moment D.crash_left_since old new
+        (RecoversAlike (D.crash_may_leave old)))
+        → SurvivesCrash letters D.Device old new [] }
 {}

@@ -1,6 +1,6 @@
 //! Commands that only read.
 ghost use Rattle.command_file.specs.Request as asked;
-ghost use Rattle.installer.specs.Said.{told_by};
+ghost use Rattle.installer.specs.RepliesOf.{reply_of};
 ghost use Rattle.msi_query.specs.Said.{query_of};
 ghost use Rattle.std.specs.Prelude.{◌≡◌, false};
 
@@ -13,12 +13,13 @@ use cfb_medium::{Error, Medium};
 use msi_query::Select;
 
 impl<F: Medium> SessionOver<F> {
-    ghost use Rattle.installer.specs.Follows.{AnswersQuietly};
+    ghost use Rattle.installer.specs.CommandRuns.{RunsWithoutPublishing};
     ghost use Rattle.installer.specs.Sessions.{is_failed};
 
     pub(crate) fn select(&mut self, select: &Select) -> Answer
         requires { is_failed self.old ≡ false }
-        ensures { AnswersQuietly (asked.select (query_of select.now)) (told_by result) self.old
+        ensures { RunsWithoutPublishing (asked.select (query_of select.now))
+            (reply_of result) self.old
             self.new }
     {
         let rows = match self.package.select_rows(select) {
@@ -33,7 +34,7 @@ impl<F: Medium> SessionOver<F> {
 
     pub(crate) fn tables(&mut self) -> Answer
         requires { is_failed self.old ≡ false }
-        ensures { AnswersQuietly asked.tables (told_by result) self.old self.new }
+        ensures { RunsWithoutPublishing asked.tables (reply_of result) self.old self.new }
     {
         let tables = match self.package.tables() {
             Ok(tables) => tables,
@@ -47,7 +48,8 @@ impl<F: Medium> SessionOver<F> {
 
     pub(crate) fn columns(&mut self, name: &str) -> Answer
         requires { is_failed self.old ≡ false }
-        ensures { AnswersQuietly (asked.columns name.now) (told_by result) self.old self.new }
+        ensures { RunsWithoutPublishing (asked.columns name.now)
+            (reply_of result) self.old self.new }
     {
         let copies = match self.package.get_table(name) {
             Some(table) => copies_of(self.alloc, table.columns()),
@@ -61,7 +63,7 @@ impl<F: Medium> SessionOver<F> {
 
     pub(crate) fn streams(&mut self) -> Answer
         requires { is_failed self.old ≡ false }
-        ensures { AnswersQuietly asked.streams (told_by result) self.old self.new }
+        ensures { RunsWithoutPublishing asked.streams (reply_of result) self.old self.new }
     {
         let streams = match self.package.streams() {
             Ok(streams) => streams,
@@ -75,7 +77,8 @@ impl<F: Medium> SessionOver<F> {
 
     pub(crate) fn read_stream(&mut self, name: &str) -> Answer
         requires { is_failed self.old ≡ false }
-        ensures { AnswersQuietly (asked.read_stream name.now) (told_by result) self.old self.new }
+        ensures { RunsWithoutPublishing (asked.read_stream name.now)
+            (reply_of result) self.old self.new }
     {
         match self.package.read_stream(name) {
             Ok(stream) => Answer::Bytes(stream.into_bytes()),
@@ -85,14 +88,14 @@ impl<F: Medium> SessionOver<F> {
 
     pub(crate) fn has_signature(&mut self) -> Answer
         requires { is_failed self.old ≡ false }
-        ensures { AnswersQuietly asked.has_signature (told_by result) self.old self.new }
+        ensures { RunsWithoutPublishing asked.has_signature (reply_of result) self.old self.new }
     {
         Answer::Yes(self.package.has_digital_signature())
     }
 
     pub(crate) fn summary(&mut self) -> Answer
         requires { is_failed self.old ≡ false }
-        ensures { AnswersQuietly asked.summary (told_by result) self.old self.new }
+        ensures { RunsWithoutPublishing asked.summary (reply_of result) self.old self.new }
     {
         match copies_of_properties(self.alloc, self.package.summary_info().properties()) {
             Ok(properties) => Answer::Summary(properties),
@@ -102,7 +105,7 @@ impl<F: Medium> SessionOver<F> {
 
     pub(crate) fn codepage(&mut self) -> Answer
         requires { is_failed self.old ≡ false }
-        ensures { AnswersQuietly asked.codepage (told_by result) self.old self.new }
+        ensures { RunsWithoutPublishing asked.codepage (reply_of result) self.old self.new }
     {
         Answer::Codepage(self.package.database_codepage())
     }

@@ -1,24 +1,24 @@
 //! A session on a package over the two files of a device.
 ghost use Rattle.cfb_medium.specs.declared.error.Error.TheVariants as error;
-ghost use Rattle.cfb_tree.specs.LetterViews.{letters_of};
+ghost use Rattle.cfb_tree.specs.CaseTableViews.{case_table_of};
 ghost use Rattle.command_file.specs.Request as asked;
-ghost use Rattle.command_file.specs.Said.{said};
-ghost use Rattle.installer.specs.Follows.{FollowAll, Follows};
-ghost use Rattle.installer.specs.Refusals.{IsCreateRefusal, IsOpenRefusal};
-ghost use Rattle.installer.specs.Said.{told_by};
+ghost use Rattle.command_file.specs.RequestsOf.{request_of};
+ghost use Rattle.installer.specs.CommandRuns.{FollowAll, RunsCommand};
+ghost use Rattle.installer.specs.Refusals.{IsSessionCreateError, IsSessionOpenError};
+ghost use Rattle.installer.specs.RepliesOf.{reply_of};
 ghost use Rattle.installer.specs.Step.{told_of};
-ghost use Rattle.installer.specs.Survival.{IsFound, Survives};
-ghost use Rattle.msi.specs.Changing.{PackageIsFit};
-ghost use Rattle.msi.specs.Committing.{HoldsSound};
+ghost use Rattle.installer.specs.CrashSurvival.{IsRecovered, SurvivesCrash};
+ghost use Rattle.msi.specs.Changing.{PackageCanBeWritten};
+ghost use Rattle.msi.specs.Committing.{BytesHoldPackage};
 ghost use Rattle.msi.specs.Fitting.{unfit_texts};
-ghost use Rattle.msi.specs.Opened.{IsOpenedPackage, PackageHolds, pool_in, summary_in};
-ghost use Rattle.msi_meaning.specs.Calls.{IsNew};
-ghost use Rattle.msi_meaning.specs.Package.{Packed};
-ghost use Rattle.msi_meaning.specs.declared.kind.PackageType.TheVariants.{Installer};
+ghost use Rattle.msi.specs.Opened.{IsOpenedPackage, PackageHasContent, pool_in, summary_in};
+ghost use Rattle.msi_spec.specs.Calls.{IsNew};
+ghost use Rattle.msi_spec.specs.Package.{PackageContent};
+ghost use Rattle.msi_spec.specs.declared.kind.PackageType.TheVariants.{Installer};
 ghost use Rattle.staged.specs.Log.{logged, recovered, MalformedLog};
-ghost use Rattle.staged.specs.Settled.{HasPublished, IsSettled};
+ghost use Rattle.staged.specs.Committed.{HasPublished, IsLogClosed};
 ghost use Rattle.std.specs.Prelude.{◌≡◌, ◌↔◌, ◌&&◌, ◌||◌, ℕ, List, [], None, Some, false, map, not, string_bytes, take, true, IfErr, IfOk, IsTrue, MatchResult, OnOk};
-ghost use Rattle.cfb_medium.specs.Calls.{Extends, IsFaultUnless};
+ghost use Rattle.cfb_medium.specs.Calls.{Reaches, IsFaultOrInvalidInputIf};
 
 use crate::Answer;
 use crate::beginning::recovered_medium;
@@ -27,7 +27,7 @@ use cfb::CaseMapper;
 use cfb_medium::{Error, Medium, ReadMedium};
 use command_file::Command;
 use msi::Package;
-use msi_meaning::PackageType;
+use msi_spec::PackageType;
 use staged::{Device, Staged};
 use std::alloc::Global;
 
@@ -63,8 +63,8 @@ impl<F: Medium> SessionOver<F> {
     /// Whether each text of the package fits its page, and none is too long: then a commit publishes bytes that hold the package. Else
     /// it writes `?` for a character that its page lacks. It takes no memory, and time for each character.
     pub fn texts_fit(&self) -> bool
-        ensures { (P : Packed) → PackageHolds (package_in self.now) P
-            → IsTrue result ↔ PackageIsFit P }
+        ensures { (P : PackageContent) → PackageHasContent (package_in self.now) P
+            → IsTrue result ↔ PackageCanBeWritten P }
     {
         self.package.texts_fit()
     }
@@ -81,7 +81,7 @@ impl<F: Medium> SessionOver<F> {
 }
 
 impl<D: Device> SessionOver<Staged<D>> {
-    ghost use Rattle.installer.specs.Sessions.{beginning, device_below, has_base, is_failed, is_sound, letters_in, package_in, StandsAt};
+    ghost use Rattle.installer.specs.Sessions.{beginning, device_below, has_base, is_failed, is_sound, session_case_table, package_in, SessionIsAt};
 
     /// Recovers, and begins a new installer package on an empty home file, whose names are compared under the letter table; nothing
     /// is committed. `InvalidData` for a malformed log, which leaves both files; `AlreadyExists` where the home file isn't empty;
@@ -93,18 +93,19 @@ impl<D: Device> SessionOver<Staged<D>> {
         letters: CaseMapper,
     ) -> Result<SessionOver<Staged<D>>, (D, Error)>
         ensures began { IsTrue (D.honest device) → IfOk result (λ s.
-            (recovered (D.content device) ≡ Some []) × (P : Packed) × IsNew Installer P
-            × PackageIsFit P × StandsAt s (beginning s None P)) }
-        ensures letters { IfOk result (λ s. letters_in s ≡ letters_of letters) }
+            (recovered (D.content device) ≡ Some []) × (P : PackageContent) × IsNew Installer P
+            × PackageCanBeWritten P × SessionIsAt s (beginning s None P)) }
+        ensures letters { IfOk result (λ s. session_case_table s ≡ case_table_of letters) }
         ensures sound { IfOk result (λ s. (is_failed s ≡ false) × (is_sound s ≡ true)) }
         ensures survives { MatchResult result
-            (λ s. Survives (letters_of letters) D.Device device (device_below s) [])
-            (λ refusal. Survives (letters_of letters) D.Device device refusal.0 []) }
-        ensures refused { IfErr result (λ refusal. IsCreateRefusal (letters_of letters) D.Device
+            (λ s. SurvivesCrash (case_table_of letters) D.Device device (device_below s) [])
+            (λ refusal. SurvivesCrash (case_table_of letters) D.Device device refusal.0 []) }
+        ensures refused_only_if { IfErr result
+            (λ refusal. IsSessionCreateError (case_table_of letters) D.Device
             device refusal.0 refusal.1) }
         ensures left { IsTrue (D.honest device) → logged (D.content device) ≡ MalformedLog
             → IfErr result (λ refusal. refusal.1 ≡ error.InvalidData
-            → Extends D.rests device refusal.0) }
+            → Reaches D.rests device refusal.0) }
     {
         let mut medium = match recovered_medium(alloc, device) {
             Ok(medium) => medium,
@@ -136,24 +137,25 @@ impl<D: Device> SessionOver<Staged<D>> {
     ) -> Result<SessionOver<Staged<D>>, (D, Error)>
         ensures opened { IsTrue (D.honest device) → IfOk result (λ s. (bytes : List ℕ)
             × (recovered (D.content device) ≡ Some bytes)
-            × IsOpenedPackage (letters_of letters) bytes (package_in s)) }
-        ensures began { IfOk result (λ s. (P : Packed) → PackageHolds (package_in s) P
-            → StandsAt s (beginning s (Some P) P)) }
-        ensures reopens { IsTrue (D.honest device) → (bytes : List ℕ) (P : Packed)
+            × IsOpenedPackage (case_table_of letters) bytes (package_in s)) }
+        ensures began { IfOk result (λ s. (P : PackageContent) → PackageHasContent (package_in s) P
+            → SessionIsAt s (beginning s (Some P) P)) }
+        ensures reopens { IsTrue (D.honest device) → (bytes : List ℕ) (P : PackageContent)
             → recovered (D.content device) ≡ Some bytes
-            → HoldsSound (letters_of letters) bytes P → MatchResult result
-            (λ s. PackageHolds (package_in s) P × (is_sound s ≡ true))
-            (λ refusal. IsFaultUnless ⊥ refusal.1) }
-        ensures letters { IfOk result (λ s. letters_in s ≡ letters_of letters) }
-        ensures live { IfOk result (λ s. is_failed s ≡ false) }
+            → BytesHoldPackage (case_table_of letters) bytes P → MatchResult result
+            (λ s. PackageHasContent (package_in s) P × (is_sound s ≡ true))
+            (λ refusal. IsFaultOrInvalidInputIf ⊥ refusal.1) }
+        ensures letters { IfOk result (λ s. session_case_table s ≡ case_table_of letters) }
+        ensures not_failed { IfOk result (λ s. is_failed s ≡ false) }
         ensures survives { MatchResult result
-            (λ s. Survives (letters_of letters) D.Device device (device_below s) [])
-            (λ refusal. Survives (letters_of letters) D.Device device refusal.0 []) }
-        ensures refused { IfErr result (λ refusal. IsOpenRefusal (letters_of letters) D.Device
+            (λ s. SurvivesCrash (case_table_of letters) D.Device device (device_below s) [])
+            (λ refusal. SurvivesCrash (case_table_of letters) D.Device device refusal.0 []) }
+        ensures refused_only_if { IfErr result
+            (λ refusal. IsSessionOpenError (case_table_of letters) D.Device
             device refusal.0 refusal.1) }
         ensures left { IsTrue (D.honest device) → logged (D.content device) ≡ MalformedLog
             → IfErr result (λ refusal. refusal.1 ≡ error.InvalidData
-            → Extends D.rests device refusal.0) }
+            → Reaches D.rests device refusal.0) }
     {
         let medium = match recovered_medium(alloc, device) {
             Ok(medium) => medium,
@@ -174,8 +176,8 @@ impl<D: Device> SessionOver<Staged<D>> {
     /// none was run. On every device, also one that lies, and whatever the file holds, `Device` and `Failed` are answered only where there
     /// was such a fault. No command of a package that isn't sound changes what a recovery gives. Letter table and soundness stay.
     pub fn run(&mut self, commands: &[Command]) -> Result<Vec<Answer>, Error>
-        ensures followed { IfOk result (λ answers. FollowAll (map said commands.now)
-            (map told_by answers.items) self.old self.new) }
+        ensures followed { IfOk result (λ answers. FollowAll (map request_of commands.now)
+            (map reply_of answers.items) self.old self.new) }
         ensures none_ran { IfErr result (λ e. (e ≡ error.Memory) × (self.new ≡ self.old)) }
     {
         let mut answers = Vec::with_capacity(self.alloc, commands.len())?;
@@ -185,7 +187,7 @@ impl<D: Device> SessionOver<Staged<D>> {
 
     // Runs one command.
     pub(crate) fn answer(&mut self, command: &Command) -> Answer
-        ensures { Follows (said command.now) (told_by result) self.old self.new }
+        ensures { RunsCommand (request_of command.now) (reply_of result) self.old self.new }
     {
         if self.has_failed() {
             return self.answer_failed(command);
@@ -218,7 +220,7 @@ impl<D: Device> SessionOver<Staged<D>> {
     // Answers a command where a fault has ended the session: a roll back alone may lead out of that.
     fn answer_failed(&mut self, command: &Command) -> Answer
         requires { is_failed self.old ≡ true }
-        ensures { Follows (said command.now) (told_by result) self.old self.new }
+        ensures { RunsCommand (request_of command.now) (reply_of result) self.old self.new }
     {
         match command {
             Command::RollBack => answer_of(self.roll_back()),
@@ -230,11 +232,12 @@ impl<D: Device> SessionOver<Staged<D>> {
     /// be written as it is; of a package that isn't sound nothing is written. `Failed` where the session has failed before; else as
     /// `Package::commit` is refused: then either all is as it was and nothing was published, or the session has failed.
     pub fn commit(&mut self) -> Result<(), Error>
-        ensures follows { Follows asked.commit (told_of result) self.old self.new }
-        ensures published { OnOk result ((P : Packed) → PackageHolds (package_in self.old) P
+        ensures follows { RunsCommand asked.commit (told_of result) self.old self.new }
+        ensures published { OnOk result
+            ((P : PackageContent) → PackageHasContent (package_in self.old) P
             → IsTrue (is_sound self.old) → (bytes : List ℕ)
             × HasPublished D.Device (device_below self.new) bytes
-            × IsFound (letters_in self.old) bytes P) }
+            × IsRecovered (session_case_table self.old) bytes P) }
     {
         if self.has_failed() {
             return Err(Error::Failed);
@@ -249,11 +252,12 @@ impl<D: Device> SessionOver<Staged<D>> {
     fn flush_and_publish(&mut self) -> Result<(), Error>
         requires live { is_failed self.old ≡ false }
         requires sound { is_sound self.old ≡ true }
-        ensures follows { Follows asked.commit (told_of result) self.old self.new }
-        ensures published { OnOk result ((P : Packed) → PackageHolds (package_in self.old) P
+        ensures follows { RunsCommand asked.commit (told_of result) self.old self.new }
+        ensures published { OnOk result
+            ((P : PackageContent) → PackageHasContent (package_in self.old) P
             → IsTrue (is_sound self.old) → (bytes : List ℕ)
             × HasPublished D.Device (device_below self.new) bytes
-            × IsFound (letters_in self.old) bytes P) }
+            × IsRecovered (session_case_table self.old) bytes P) }
     {
         match self.write_out() {
             Ok(()) => self.publish(),
@@ -265,11 +269,12 @@ impl<D: Device> SessionOver<Staged<D>> {
     // to which to go back.
     fn publish(&mut self) -> Result<(), Error>
         requires { is_failed self.old ≡ false }
-        ensures follows { Follows asked.commit (told_of result) self.old self.new }
-        ensures published { OnOk result ((P : Packed) → PackageHolds (package_in self.old) P
+        ensures follows { RunsCommand asked.commit (told_of result) self.old self.new }
+        ensures published { OnOk result
+            ((P : PackageContent) → PackageHasContent (package_in self.old) P
             → IsTrue (is_sound self.old) → (bytes : List ℕ)
             × HasPublished D.Device (device_below self.new) bytes
-            × IsFound (letters_in self.old) bytes P) }
+            × IsRecovered (session_case_table self.old) bytes P) }
     {
         let published = self.package.commit();
         let is_done = published.is_ok();
@@ -291,7 +296,7 @@ impl<D: Device> SessionOver<Staged<D>> {
     /// session has failed, and may be rolled back again. Of a package that isn't sound nothing was changed, so nothing is read. Nothing is
     /// written, and nothing is published.
     pub fn roll_back(&mut self) -> Result<(), Error>
-        ensures { Follows asked.roll_back (told_of result) self.old self.new }
+        ensures { RunsCommand asked.roll_back (told_of result) self.old self.new }
     {
         if !self.is_sound() {
             if self.has_failed() {
@@ -312,7 +317,7 @@ impl<D: Device> SessionOver<Staged<D>> {
     pub fn into_device(self) -> D
         ensures device { result ≡ device_below self }
         ensures settled { IsTrue (D.honest result) → is_failed self ≡ false
-            → IsSettled D.Device result }
+            → IsLogClosed D.Device result }
     {
         self.package.into_medium().into_device()
     }

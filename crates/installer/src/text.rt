@@ -8,7 +8,7 @@ ghost use Rattle.cfb_medium.specs.Times.{units_of};
 ghost use Rattle.msi_columns.specs.Held.{column_of, columns_of};
 ghost use Rattle.msi_props.specs.Held.{pair_in, property_in};
 ghost use Rattle.msi_values.specs.Datum.{data_of, datum_of};
-ghost use Rattle.installer.specs.Said.{told_by};
+ghost use Rattle.installer.specs.RepliesOf.{reply_of};
 ghost use Rattle.installer.specs.Answers.{cell_data, column_data, hex_text, kind_name, names_data, numbered_data, property_data, reply_data, row_data, rows_data};
 
 use crate::Answer;
@@ -23,14 +23,14 @@ use std::alloc::{AllocError, Global};
 #[tactic(auto, using(crate::proofs::Floats::reply_has_none))]
 pub fn answer_text(alloc: Global, answer: &Answer) -> Result<String, AllocError>
     ensures { IfOk result (λ text. string_bytes text
-        ≡ compact_text (reply_data (told_by answer.now))) }
+        ≡ compact_text (reply_data (reply_of answer.now))) }
 {
     let value = answer_value(alloc, answer)?;
     value.to_string(alloc)
 }
 
 fn answer_value(alloc: Global, answer: &Answer) -> Result<Json, AllocError>
-    ensures { IfOk result (λ v. view v ≡ reply_data (told_by answer.now)) }
+    ensures { IfOk result (λ v. view v ≡ reply_data (reply_of answer.now)) }
 {
     match answer {
         Answer::Done => json!(in alloc; "ok"),

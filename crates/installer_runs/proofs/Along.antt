@@ -4,8 +4,8 @@ use Rattle.std.proofs.lemmas.List.{map-append}
 use Rattle.cfb_medium.specs.declared.medium.ReadMedium as medium
 use Rattle.command_file.specs.Request.{Request}
 use Rattle.installer.specs.Reply.{Reply}
-use Rattle.installer.specs.Sessions.{device_below, letters_in}
-use Rattle.installer.specs.Survival.{Survives}
+use Rattle.installer.specs.Sessions.{device_below, session_case_table}
+use Rattle.installer.specs.CrashSurvival.{SurvivesCrash}
 use Rattle.installer.specs.declared.session.SessionOver.{SessionOver}
 use Rattle.cfb_medium.specs.declared.error.Error.{Error}
 use Rattle.installer_runs.proofs.Fitting.{fit_none, goes_fit_then}
@@ -27,7 +27,7 @@ module _ {D : Type 0} {g : Ghosts D} {h : medium.Ghosts (Staged D g)} {C : Type 
     pub replies : List Reply
     pub follow : GoesFit (map f (take count commands)) replies old new
 
-  pub followed_none : (commands : List C) (it : SessionOver (Staged D g) h) → Survives (letters_in it) g (device_below it) (device_below it) [] → Followed commands 0 it it
+  pub followed_none : (commands : List C) (it : SessionOver (Staged D g) h) → SurvivesCrash (session_case_table it) g (device_below it) (device_below it) [] → Followed commands 0 it it
   followed_none commands it stay = record { within = omega arith; replies = []; follow = fit_none it stay }
 
   -- a slice behind them

@@ -1,15 +1,15 @@
 //! A copy of a package, committed to a device.
-ghost use Rattle.cfb.specs.Views.{letters_in, mini_of};
-ghost use Rattle.cfb_fat.specs.Tables.{HasCauseBelow};
+ghost use Rattle.cfb.specs.Views.{file_case_table, mini_of};
+ghost use Rattle.cfb_fat.specs.Tables.{IsJustifiedBySectors};
 ghost use Rattle.cfb_medium.specs.declared.error.Error.TheVariants.{AlreadyExists};
 ghost use Rattle.cfb_mini.specs.Views.{allocator_of};
 ghost use Rattle.installer.specs.Refusals.{IsFreshFault};
-ghost use Rattle.installer.specs.Survival.{Survives};
-ghost use Rattle.installer_runs.specs.Copying.{CopiesOn, IsCopied, IsCopyRefusal, IsUncopied, SurvivesCopy};
-ghost use Rattle.msi.specs.Opened.{file_in, PackageHolds};
-ghost use Rattle.msi_meaning.specs.Package.{Packed};
+ghost use Rattle.installer.specs.CrashSurvival.{SurvivesCrash};
+ghost use Rattle.installer_runs.specs.Copying.{CopiesOn, IsPackageCopied, IsCopyRefusal, IsUncopied, CopySurvivesCrash};
+ghost use Rattle.msi.specs.Opened.{file_in, PackageHasContent};
+ghost use Rattle.msi_spec.specs.Package.{PackageContent};
 ghost use Rattle.staged.specs.Log.{recovered};
-ghost use Rattle.staged.specs.Staged.{device_of, is_failed, staged_bytes, IsHonest};
+ghost use Rattle.staged.specs.Staged.{device_of, is_failed, staged_bytes, IsStagedHonest};
 ghost use Rattle.std.specs.Prelude.{◌≡◌, ◌⊎◌, ◌≤◌, List, [], Some, false, IfErr, IsTrue, OnOk};
 
 use cfb_medium::{Error, Medium, ReadMedium};
@@ -32,10 +32,11 @@ pub fn copy_on<D: Device, F: Medium>(
     ensures copied { IsTrue (D.honest device)
         → OnOk result.1 (CopiesOn source.old D.Device device result.0) }
     ensures survives { IsTrue (D.honest device)
-        → SurvivesCopy source.old D.Device device result.0 }
+        → CopySurvivesCrash source.old D.Device device result.0 }
     ensures kept { IsTrue (D.honest device) → (recovered (D.content device) ≡ Some [] → ⊥)
-        → Survives (letters_in (file_in source.old)) D.Device device result.0 [] }
-    ensures refused { IsTrue (D.honest device) → (P : Packed) → PackageHolds source.old P
+        → SurvivesCrash (file_case_table (file_in source.old)) D.Device device result.0 [] }
+    ensures refused_only_if { IsTrue (D.honest device) → (P : PackageContent)
+        → PackageHasContent source.old P
         → IfErr result.1 (IsCopyRefusal source.old source.new D.Device device result.0) }
 {
     match recovered_medium(alloc, device) {
@@ -49,16 +50,18 @@ fn copy_over<D: Device, F: Medium>(
     source: &mut Package<F>,
     medium: Staged<D>,
 ) -> (D, Result<(), Error>)
-    ensures copied { IsHonest medium → OnOk result.1 ((staged_bytes medium ≡ [])
-        × IsCopied source.old D.Device result.0) }
-    ensures survives { IsHonest medium
-        → SurvivesCopy source.old D.Device (device_of medium) result.0 }
-    ensures kept { IsHonest medium → (staged_bytes medium ≡ [] → ⊥)
-        → Survives (letters_in (file_in source.old)) D.Device (device_of medium) result.0 [] }
-    ensures refused { IsHonest medium → (P : Packed) → PackageHolds source.old P → IfErr result.1
+    ensures copied { IsStagedHonest medium → OnOk result.1 ((staged_bytes medium ≡ [])
+        × IsPackageCopied source.old D.Device result.0) }
+    ensures survives { IsStagedHonest medium
+        → CopySurvivesCrash source.old D.Device (device_of medium) result.0 }
+    ensures kept { IsStagedHonest medium → (staged_bytes medium ≡ [] → ⊥)
+        → SurvivesCrash (file_case_table (file_in source.old)) D.Device
+        (device_of medium) result.0 [] }
+    ensures refused_only_if { IsStagedHonest medium → (P : PackageContent)
+        → PackageHasContent source.old P → IfErr result.1
         (λ e. ((e ≡ AlreadyExists) × (staged_bytes medium ≡ [] → ⊥)) ⊎ IsUncopied source.old e) }
     ensures cause { is_failed medium ≡ false
-        → IfErr result.1 (λ e. HasCauseBelow (allocator_of (mini_of (file_in source.old)))
+        → IfErr result.1 (λ e. IsJustifiedBySectors (allocator_of (mini_of (file_in source.old)))
         (allocator_of (mini_of (file_in source.new))) e
         ⊎ IsFreshFault D.Device (device_of medium) result.0 e) }
     ensures counted { D.failures (device_of medium) ≤ D.failures result.0 }
@@ -79,15 +82,15 @@ fn commit_copy<D: Device, F: Medium>(
     source: &mut Package<F>,
     medium: &mut Staged<D>,
 ) -> Result<(), Error>
-    requires { IsHonest medium.old → staged_bytes medium.old ≡ [] }
-    ensures copied { IsHonest medium.old
-        → OnOk result (IsCopied source.old D.Device (device_of medium.new)) }
-    ensures survives { IsHonest medium.old
-        → SurvivesCopy source.old D.Device (device_of medium.old) (device_of medium.new) }
-    ensures refused { (P : Packed) → PackageHolds source.old P
+    requires { IsStagedHonest medium.old → staged_bytes medium.old ≡ [] }
+    ensures copied { IsStagedHonest medium.old
+        → OnOk result (IsPackageCopied source.old D.Device (device_of medium.new)) }
+    ensures survives { IsStagedHonest medium.old
+        → CopySurvivesCrash source.old D.Device (device_of medium.old) (device_of medium.new) }
+    ensures refused_only_if { (P : PackageContent) → PackageHasContent source.old P
         → IfErr result (IsUncopied source.old) }
     ensures cause { is_failed medium.old ≡ false
-        → IfErr result (λ e. HasCauseBelow (allocator_of (mini_of (file_in source.old)))
+        → IfErr result (λ e. IsJustifiedBySectors (allocator_of (mini_of (file_in source.old)))
         (allocator_of (mini_of (file_in source.new))) e
         ⊎ IsFreshFault D.Device (device_of medium.old) (device_of medium.new) e) }
     ensures counted { D.failures (device_of medium.old) ≤ D.failures (device_of medium.new) }

@@ -1,10 +1,10 @@
 //! A package made on a device.
-ghost use Rattle.cfb_tree.specs.LetterViews.{letters_of};
-ghost use Rattle.installer.specs.Refusals.{IsCreateRefusal};
-ghost use Rattle.installer.specs.Survival.{Survives};
+ghost use Rattle.cfb_tree.specs.CaseTableViews.{case_table_of};
+ghost use Rattle.installer.specs.Refusals.{IsSessionCreateError};
+ghost use Rattle.installer.specs.CrashSurvival.{SurvivesCrash};
 ghost use Rattle.installer_runs.specs.Making.{AreOfNew, CommitsLast, MakesOn};
 ghost use Rattle.staged.specs.Log.{recovered};
-ghost use Rattle.installer.specs.Course.{Mark};
+ghost use Rattle.installer.specs.SessionStates.{BegunCommit};
 ghost use Rattle.std.specs.Prelude.{◌≡◌, List, [], Some, IfErr, IsTrue, OnOk};
 
 use cfb::CaseMapper;
@@ -21,13 +21,13 @@ use std::alloc::Global;
 /// `Memory`, `Full`, or `Device` and `Failed` by a fault of the device.
 pub fn create_on<D: Device>(alloc: Global, device: D, letters: CaseMapper) -> (D, Result<(), Error>)
     ensures made { IsTrue (D.honest device)
-        → OnOk result.1 (MakesOn (letters_of letters) D.Device device result.0) }
-    ensures survives { IsTrue (D.honest device) → (marks : List Mark) × AreOfNew marks
-        × Survives (letters_of letters) D.Device device result.0 marks }
+        → OnOk result.1 (MakesOn (case_table_of letters) D.Device device result.0) }
+    ensures survives { IsTrue (D.honest device) → (marks : List BegunCommit) × AreOfNew marks
+        × SurvivesCrash (case_table_of letters) D.Device device result.0 marks }
     ensures kept { IsTrue (D.honest device) → (recovered (D.content device) ≡ Some [] → ⊥)
-        → Survives (letters_of letters) D.Device device result.0 [] }
-    ensures refused { IsTrue (D.honest device) → IfErr result.1
-        (IsCreateRefusal (letters_of letters) D.Device device result.0) }
+        → SurvivesCrash (case_table_of letters) D.Device device result.0 [] }
+    ensures refused_only_if { IsTrue (D.honest device) → IfErr result.1
+        (IsSessionCreateError (case_table_of letters) D.Device device result.0) }
 {
     match Session::create(alloc, device, letters) {
         Ok(session) => commit_last(session),

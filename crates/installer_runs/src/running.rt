@@ -1,13 +1,13 @@
 //! Commands run on the package of a device.
-ghost use Rattle.cfb_tree.specs.LetterViews.{letters_of};
-ghost use Rattle.command_file.specs.Said.{said};
+ghost use Rattle.cfb_tree.specs.CaseTableViews.{case_table_of};
+ghost use Rattle.command_file.specs.RequestsOf.{request_of};
 ghost use Rattle.installer.specs.Reply as told;
-ghost use Rattle.installer.specs.Said.{told_by};
+ghost use Rattle.installer.specs.RepliesOf.{reply_of};
 ghost use Rattle.installer_runs.specs.Runs.{GoesAlong, GoesFit, IsSlice, KeepsBack, Leads, LetsPass, RunsOn};
-ghost use Rattle.installer.specs.Survival.{Survives};
-ghost use Rattle.msi.specs.Committing.{HoldsSound};
+ghost use Rattle.installer.specs.CrashSurvival.{SurvivesCrash};
+ghost use Rattle.msi.specs.Committing.{BytesHoldPackage};
 ghost use Rattle.msi.specs.Opened.{IsSoundFile};
-ghost use Rattle.msi_meaning.specs.Package.{Packed};
+ghost use Rattle.msi_spec.specs.Package.{PackageContent};
 ghost use Rattle.staged.specs.Log.{recovered};
 ghost use Rattle.std.specs.Prelude.{◌≡◌, ◌∷◌, ℕ, List, [], Some, false, map, true, IfErr, IfOk, IsTrue};
 
@@ -52,13 +52,15 @@ pub fn run_on<D: Device, L: Listener>(
     commands: &[Command],
     listener: &mut L,
 ) -> (D, Ending)
-    ensures ran { IsTrue (D.honest device) → (bytes : List ℕ) (P : Packed)
-        → recovered (D.content device) ≡ Some bytes → HoldsSound (letters_of letters) bytes P
-        → RunsOn (letters_of letters) D.Device P (map said commands.now) result.1 device result.0 }
+    ensures ran { IsTrue (D.honest device) → (bytes : List ℕ) (P : PackageContent)
+        → recovered (D.content device) ≡ Some bytes
+        → BytesHoldPackage (case_table_of letters) bytes P
+        → RunsOn (case_table_of letters) D.Device P
+        (map request_of commands.now) result.1 device result.0 }
     ensures unsound { IsTrue (D.honest device) → (bytes : List ℕ)
         → recovered (D.content device) ≡ Some bytes
-        → (IsSoundFile (letters_of letters) bytes → ⊥)
-        → Survives (letters_of letters) D.Device device result.0 [] }
+        → (IsSoundFile (case_table_of letters) bytes → ⊥)
+        → SurvivesCrash (case_table_of letters) D.Device device result.0 [] }
 {
     match Session::open(alloc, device, letters) {
         Ok(session) => run_session(alloc, session, commands, listener),
@@ -73,7 +75,7 @@ fn run_session<D: Device, L: Listener>(
     commands: &[Command],
     listener: &mut L,
 ) -> (D, Ending)
-    ensures { Leads (map said commands.now) result.1 session result.0 }
+    ensures { Leads (map request_of commands.now) result.1 session result.0 }
 {
     let mut session = session;
     let ending = run_all(alloc, &mut session, commands, listener);
@@ -87,7 +89,7 @@ fn run_all<D: Device, L: Listener>(
     commands: &[Command],
     listener: &mut L,
 ) -> Ending
-    ensures { GoesAlong (map said commands.now) result session.old session.new }
+    ensures { GoesAlong (map request_of commands.now) result session.old session.new }
 {
     let mut done = 0;
     while done < commands.len() {
@@ -111,9 +113,9 @@ fn run_slice<D: Device, L: Listener>(
     slice: &[Command],
     listener: &mut L,
 ) -> Result<Vec<Answer>, Error>
-    requires { IsSlice (map said slice.now) }
-    ensures goes { IfOk result (λ answers. GoesFit (map said slice.now)
-        (map told_by answers.items) session.old session.new) }
+    requires { IsSlice (map request_of slice.now) }
+    ensures goes { IfOk result (λ answers. GoesFit (map request_of slice.now)
+        (map reply_of answers.items) session.old session.new) }
     ensures none_ran { IfErr result (λ e. session.new ≡ session.old) }
 {
     if is_commit_alone(slice) && is_unfit(session) {
@@ -138,7 +140,7 @@ fn is_unfit<D: Device>(session: &SessionOver<Staged<D>>) -> bool
 
 // The answer of a commit that isn't passed on.
 fn refusal(alloc: Global) -> Result<Vec<Answer>, Error>
-    ensures { IfOk result (λ answers. map told_by answers.items
+    ensures { IfOk result (λ answers. map reply_of answers.items
         ≡ told.refused Error.InvalidInput ∷ []) }
 {
     let mut answers = Vec::new(alloc);

@@ -1,6 +1,6 @@
 //! Slices of a list of commands, which are run at once.
 ghost use Rattle.command_file.specs.Request.{is_commit};
-ghost use Rattle.command_file.specs.Said.{said};
+ghost use Rattle.command_file.specs.RequestsOf.{request_of};
 ghost use Rattle.installer_runs.specs.Runs.{has_commit, is_alone, IsSlice};
 ghost use Rattle.std.specs.Prelude.{◌≡◌, ◌-◌, ◌<◌, ◌≤◌, drop, false, length, map, take};
 
@@ -36,7 +36,7 @@ pub(crate) fn next_slice(commands: &[Command], from: usize) -> usize
     requires { from < length commands.now }
     ensures behind { from < result }
     ensures inside { result ≤ length commands.now }
-    ensures slice { IsSlice (map said (take (result - from) (drop from commands.now))) }
+    ensures slice { IsSlice (map request_of (take (result - from) (drop from commands.now))) }
 {
     let end = end_of_slice(commands, from);
     from + part_of(&commands[from..end])
@@ -47,7 +47,7 @@ fn part_of(commands: &[Command]) -> usize
     requires { 0 < length commands.now }
     ensures some { 0 < result }
     ensures inside { result ≤ length commands.now }
-    ensures slice { IsSlice (map said (take result commands.now)) }
+    ensures slice { IsSlice (map request_of (take result commands.now)) }
 {
     let count = before_commit(commands);
     if count == 0 {
@@ -59,9 +59,9 @@ fn part_of(commands: &[Command]) -> usize
 // How many of them stand before the first commit.
 fn before_commit(commands: &[Command]) -> usize
     ensures inside { result ≤ length commands.now }
-    ensures free { has_commit (map said (take result commands.now)) ≡ false }
+    ensures free { has_commit (map request_of (take result commands.now)) ≡ false }
     ensures first { result ≡ 0 → 0 < length commands.now
-        → IsSlice (map said (take 1 commands.now)) }
+        → IsSlice (map request_of (take 1 commands.now)) }
 {
     for (count, command) in commands.iter().enumerate() {
         if is_commit(command) {
@@ -73,14 +73,14 @@ fn before_commit(commands: &[Command]) -> usize
 
 // Whether a command commits.
 fn is_commit(command: &Command) -> bool
-    ensures { result ≡ is_commit (said command.now) }
+    ensures { result ≡ is_commit (request_of command.now) }
 {
     matches!(command, Command::Commit)
 }
 
 /// Whether these commands are a commit alone.
 pub(crate) fn is_commit_alone(commands: &[Command]) -> bool
-    ensures { result ≡ is_alone (map said commands.now) }
+    ensures { result ≡ is_alone (map request_of commands.now) }
 {
     match commands {
         [command] => is_commit(command),

@@ -3,7 +3,7 @@ ghost use Rattle.std.specs.Prelude.{◌≡◌, ◌^◌, map, option_and_then, op
 ghost use Rattle.std.specs.List.{list_any};
 ghost use Rattle.serde_json.specs.Find.{as_array, as_str, get};
 ghost use Rattle.serde_json.specs.View.{items_view, members_view, view};
-ghost use Rattle.json_parts.specs.Reads.{Gives};
+ghost use Rattle.json_parts.specs.Reads.{ReturnsOrInvalidInput};
 ghost use Rattle.json_parts.specs.Values.{in_range, int_in, keys_among, only_keys, text_at, two_in, whole_in};
 
 use cfb_medium::Error;
@@ -47,7 +47,7 @@ fn is_one(key: &str, keys: &[&str]) -> bool
 
 /// What stands at a key of an object. `InvalidInput` where it is no object or has no such key.
 pub fn member<'a>(json: &'a Json, key: &str) -> Result<&'a Json, Error>
-    ensures { Gives (λ found. view found.now) result (get key.now (view json.now)) }
+    ensures { ReturnsOrInvalidInput (λ found. view found.now) result (get key.now (view json.now)) }
 {
     match json.get(key) {
         Some(found) => Ok(found),
@@ -57,7 +57,7 @@ pub fn member<'a>(json: &'a Json, key: &str) -> Result<&'a Json, Error>
 
 /// A text. `InvalidInput` for anything else.
 pub fn text_of(json: &Json) -> Result<&str, Error>
-    ensures { Gives (λ text. text.now) result (as_str (view json.now)) }
+    ensures { ReturnsOrInvalidInput (λ text. text.now) result (as_str (view json.now)) }
 {
     match json.as_str() {
         Some(text) => Ok(text),
@@ -77,7 +77,7 @@ pub fn find_text<'a>(json: &'a Json, key: &str) -> Option<&'a str>
 
 /// The text of a key of an object. `InvalidInput` where there is none.
 pub fn text_at<'a>(json: &'a Json, key: &str) -> Result<&'a str, Error>
-    ensures { Gives (λ text. text.now) result (text_at key.now (view json.now)) }
+    ensures { ReturnsOrInvalidInput (λ text. text.now) result (text_at key.now (view json.now)) }
 {
     match find_text(json, key) {
         Some(text) => Ok(text),
@@ -87,7 +87,8 @@ pub fn text_at<'a>(json: &'a Json, key: &str) -> Result<&'a str, Error>
 
 /// A list. `InvalidInput` for anything else.
 pub fn list_of(json: &Json) -> Result<&[Json], Error>
-    ensures { Gives (λ items. items_view items.now) result (as_array (view json.now)) }
+    ensures { ReturnsOrInvalidInput (λ items. items_view items.now) result
+        (as_array (view json.now)) }
 {
     match json.as_array() {
         Some(list) => Ok(list.as_slice()),
@@ -97,7 +98,8 @@ pub fn list_of(json: &Json) -> Result<&[Json], Error>
 
 /// The two parts of a list of two. `InvalidInput` for anything else.
 pub fn two_of(json: &Json) -> Result<(&Json, &Json), Error>
-    ensures { Gives (λ two. (view two.0.now, view two.1.now)) result (two_in (view json.now)) }
+    ensures { ReturnsOrInvalidInput (λ two. (view two.0.now, view two.1.now)) result
+        (two_in (view json.now)) }
 {
     let list = list_of(json)?;
     if list.len() != 2 {
@@ -108,7 +110,7 @@ pub fn two_of(json: &Json) -> Result<(&Json, &Json), Error>
 
 /// A whole number of 32 bits with its sign. `InvalidInput` for anything else.
 pub fn integer_of(json: &Json) -> Result<i32, Error>
-    ensures { Gives (λ number. number) result (int_in (view json.now)) }
+    ensures { ReturnsOrInvalidInput (λ number. number) result (int_in (view json.now)) }
 {
     match json.as_i64() {
         Some(number) => integer_from(number),
@@ -118,21 +120,21 @@ pub fn integer_of(json: &Json) -> Result<i32, Error>
 
 // A number, where it has 32 bits.
 fn integer_from(number: i64) -> Result<i32, Error>
-    ensures { Gives (λ read. read) result (in_range number) }
+    ensures { ReturnsOrInvalidInput (λ read. read) result (in_range number) }
 {
     i32::try_from(number).or(Err(Error::InvalidInput))
 }
 
 /// A whole number from 0 on, of 64 bits. `InvalidInput` for anything else.
 pub fn whole_of(json: &Json) -> Result<u64, Error>
-    ensures { Gives (λ number. number) result (whole_in (2 ^ 64) (view json.now)) }
+    ensures { ReturnsOrInvalidInput (λ number. number) result (whole_in (2 ^ 64) (view json.now)) }
 {
     json.as_u64().ok_or(Error::InvalidInput)
 }
 
 /// A whole number from 0 on, of 16 bits. `InvalidInput` for anything else.
 pub fn short_of(json: &Json) -> Result<u16, Error>
-    ensures { Gives (λ number. number) result (whole_in (2 ^ 16) (view json.now)) }
+    ensures { ReturnsOrInvalidInput (λ number. number) result (whole_in (2 ^ 16) (view json.now)) }
 {
     let number = whole_of(json)?;
     u16::try_from(number).or(Err(Error::InvalidInput))

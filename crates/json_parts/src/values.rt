@@ -2,7 +2,7 @@
 ghost use Rattle.std.specs.Prelude.{◌≡◌, None, Some, if◌then◌else◌, map, option_map};
 ghost use Rattle.serde_json.specs.View.{items_view, view};
 ghost use Rattle.msi_values.specs.Datum.{binary, data_of, datum_of};
-ghost use Rattle.json_parts.specs.Reads.{Gives};
+ghost use Rattle.json_parts.specs.Reads.{ReturnsOrInvalidInput};
 ghost use Rattle.json_parts.specs.Values.{all_in, marked, row_in, rows_in, value_in};
 
 use crate::members::{has_only, integer_of, list_of};
@@ -14,7 +14,7 @@ use std::alloc::Global;
 /// A value of a row: null, a number of 32 bits, a text, or `{"binary":true}`. `InvalidInput` for anything else, `Memory` where there
 /// is no room for the text.
 pub fn value_of(alloc: Global, json: &Json) -> Result<Value, Error>
-    ensures { Gives datum_of result (value_in (view json.now)) }
+    ensures { ReturnsOrInvalidInput datum_of result (value_in (view json.now)) }
 {
     match json {
         Json::Null => Ok(Value::Null),
@@ -44,14 +44,15 @@ fn is_marked(json: Option<&Json>) -> bool
 
 // A row of values.
 fn row_of(alloc: Global, json: &Json) -> Result<Vec<Value>, Error>
-    ensures { Gives (λ row. data_of row.items) result (row_in (view json.now)) }
+    ensures { ReturnsOrInvalidInput (λ row. data_of row.items) result (row_in (view json.now)) }
 {
     let list = list_of(json)?;
     values_of(alloc, list)
 }
 
 fn values_of(alloc: Global, list: &[Json]) -> Result<Vec<Value>, Error>
-    ensures { Gives (λ row. data_of row.items) result (all_in value_in (items_view list.now)) }
+    ensures { ReturnsOrInvalidInput (λ row. data_of row.items) result
+        (all_in value_in (items_view list.now)) }
 {
     let mut row = Vec::new(alloc);
     for item in list {
@@ -62,7 +63,7 @@ fn values_of(alloc: Global, list: &[Json]) -> Result<Vec<Value>, Error>
 
 /// Rows of values: a list of lists. `InvalidInput` for anything else, `Memory` where there is no room.
 pub fn rows_of(alloc: Global, json: &Json) -> Result<Vec<Vec<Value>>, Error>
-    ensures { Gives (λ rows. map (λ row. data_of row.items) rows.items) result
+    ensures { ReturnsOrInvalidInput (λ rows. map (λ row. data_of row.items) rows.items) result
         (rows_in (view json.now)) }
 {
     let list = list_of(json)?;
@@ -70,7 +71,7 @@ pub fn rows_of(alloc: Global, json: &Json) -> Result<Vec<Vec<Value>>, Error>
 }
 
 fn each_row(alloc: Global, list: &[Json]) -> Result<Vec<Vec<Value>>, Error>
-    ensures { Gives (λ rows. map (λ row. data_of row.items) rows.items) result
+    ensures { ReturnsOrInvalidInput (λ rows. map (λ row. data_of row.items) rows.items) result
         (all_in row_in (items_view list.now)) }
 {
     let mut rows = Vec::new(alloc);

@@ -1,20 +1,20 @@
 -- A package that was copied, at each exit.
 use Rattle.std.proofs.Common.{◌≡◌, ◌∙◌, List, false, inl, inr, refl, subst, sym, true, ℕ}
 use Rattle.std.specs.Prelude.{Err, IfErr, Ok, OnOk, Result}
-use Rattle.cfb.specs.Doing.{CopiesFile, FileMeans}
-use Rattle.cfb.specs.Views.{FileRests, letters_in, mini_of}
+use Rattle.cfb.specs.FollowedRules.{CopiesFile, FileMeansTree}
+use Rattle.cfb.specs.Views.{OnlyReadsFile, file_case_table, mini_of}
 use Rattle.cfb_copying.specs.Copied.{HoldsCopy}
-use Rattle.cfb_fat.specs.Tables.{HasCauseBelow, version_of}
-use Rattle.cfb_live.specs.Doing.{IsFault}
+use Rattle.cfb_fat.specs.Tables.{IsJustifiedBySectors, version_of}
+use Rattle.cfb_tree_edits.specs.LiveTreeRules.{IsFaultOrFull}
 use Rattle.cfb_medium.specs.declared.error.Error.{Error}
 use Rattle.cfb_medium.specs.declared.error.Error.TheVariants.{Failed, InvalidData}
 use Rattle.cfb_medium.specs.declared.medium.ReadMedium.{Ghosts}
 use Rattle.cfb_medium.specs.declared.version.Version.{Version}
 use Rattle.cfb_mini.specs.Views.{allocator_of}
-use Rattle.cfb_tree.specs.Names.{Letters}
+use Rattle.cfb_tree.specs.Names.{CaseTable}
 use Rattle.cfb_tree.specs.Tree.{Tree}
-use Rattle.msi_meaning.specs.Opening.{may_use}
-use Rattle.msi_meaning.specs.Package.{Packed}
+use Rattle.msi_spec.specs.Opening.{keeps_encoded_names}
+use Rattle.msi_spec.specs.Package.{PackageContent}
 use Rattle.msi.proofs.Changed.{DifferByFile}
 use Rattle.msi.proofs.Flushed.{keeps_flushed, written_yet}
 use Rattle.msi.proofs.SavedSound.{PacksSound}
@@ -24,11 +24,11 @@ use Rattle.msi.specs.Opened.{file_in, pool_in, sound_in}
 use Rattle.msi.specs.declared.package.Package.{Package}
 
 -- a refusal of a package that isn't sound needs no fault
-pub unsound_cause : {F : Type 0} {g : Ghosts F} (it : Package F g) → HasCauseBelow (allocator_of (mini_of (file_in it))) (allocator_of (mini_of (file_in it))) InvalidData
+pub unsound_cause : {F : Type 0} {g : Ghosts F} (it : Package F g) → IsJustifiedBySectors (allocator_of (mini_of (file_in it))) (allocator_of (mini_of (file_in it))) InvalidData
 unsound_cause it = λ start from. record { device = λ wrong. absurd (cc); earlier = λ wrong. absurd (cc) }
 
 -- a copy of a file that packs a sound package holds it
-copy_holds : (version : Version) (letters : Letters) (bytes : List ℕ) (P : Packed) (tree : Tree) → may_use letters ≡ true → HoldsCopy version letters bytes tree → (p : PacksSound letters tree P) → HoldsPackageCopy version letters bytes P
+copy_holds : (version : Version) (letters : CaseTable) (bytes : List ℕ) (P : PackageContent) (tree : Tree) → keeps_encoded_names letters ≡ true → HoldsCopy version letters bytes tree → (p : PacksSound letters tree P) → HoldsPackageCopy version letters bytes P
 copy_holds version letters bytes P tree usable copy p = record {
   tree = tree;
   copy = copy;
@@ -77,19 +77,19 @@ module _ {F : Type 0} {g : Ghosts F} (honest : Type 0) (bytes : List ℕ) where
       seen = s.seen;
     }
 
-    module _ (u : Unit {0}) (s : PackageWrites (Ok u) old mid) (new : Package F g) (d : DifferByFile mid new) (same : pool_in new ≡ pool_in mid) (rests : FileRests (file_in mid) (file_in new)) where
+    module _ (u : Unit {0}) (s : PackageWrites (Ok u) old mid) (new : Package F g) (d : DifferByFile mid new) (same : pool_in new ≡ pool_in mid) (rests : OnlyReadsFile (file_in mid) (file_in new)) where
       copied : (version_of (allocator_of (mini_of (file_in mid))) ≡ version_of (allocator_of (mini_of (file_in old))))
-          → (honest → (tree : Tree) → FileMeans (file_in mid) tree → CopiesFile (file_in mid) tree bytes)
-          → (P : Packed) → PackageIsWritten mid P → honest → HoldsPackageCopy (version_of (allocator_of (mini_of (file_in old)))) (letters_in (file_in old)) bytes P
+          → (honest → (tree : Tree) → FileMeansTree (file_in mid) tree → CopiesFile (file_in mid) tree bytes)
+          → (P : PackageContent) → PackageIsWritten mid P → honest → HoldsPackageCopy (version_of (allocator_of (mini_of (file_in old)))) (file_case_table (file_in old)) bytes P
       copied version copies P saved is =
-          subst (λ v. HoldsPackageCopy v (letters_in (file_in old)) bytes P) version
+          subst (λ v. HoldsPackageCopy v (file_case_table (file_in old)) bytes P) version
           (subst (λ l. HoldsPackageCopy (version_of (allocator_of (mini_of (file_in mid)))) l bytes P) s.seen.0
-          (copy_holds (version_of (allocator_of (mini_of (file_in mid)))) (letters_in (file_in mid)) bytes P saved.tree saved.holds.usable (copies is saved.tree saved.means).holds (record { packs = saved.packs; sound = saved.sound })))
+          (copy_holds (version_of (allocator_of (mini_of (file_in mid)))) (file_case_table (file_in mid)) bytes P saved.tree saved.holds.usable (copies is saved.tree saved.means).holds (record { packs = saved.packs; sound = saved.sound })))
 
       -- the file was copied, or that was refused
       pub saved_copies : (r : Result (Unit {0}) Error) → (version_of (allocator_of (mini_of (file_in mid))) ≡ version_of (allocator_of (mini_of (file_in old))))
-          → OnOk r (honest → (tree : Tree) → FileMeans (file_in mid) tree → CopiesFile (file_in mid) tree bytes)
-          → IfErr r (λ e. (tree : Tree) → FileMeans (file_in mid) tree → IsFault e) → PackageCopies honest bytes r old new
+          → OnOk r (honest → (tree : Tree) → FileMeansTree (file_in mid) tree → CopiesFile (file_in mid) tree bytes)
+          → IfErr r (λ e. (tree : Tree) → FileMeansTree (file_in mid) tree → IsFaultOrFull e) → PackageCopies honest bytes r old new
       saved_copies (Ok v) version copies refused = record {
         failed = λ yes. let never : true ≡ false = sym yes ∙ live in absurd (cc);
         unsound = λ no wrong. let never : true ≡ false = sym sound ∙ wrong in absurd (cc);

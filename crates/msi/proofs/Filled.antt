@@ -7,12 +7,12 @@ use Rattle.cfb_medium.specs.declared.error.Error.{Error}
 use Rattle.cfb_medium.specs.declared.error.Error.TheVariants.{Failed, Full, InvalidData}
 use Rattle.cfb_medium.specs.declared.medium.ReadMedium.{Ghosts}
 use Rattle.cfb_mini.specs.Views.{allocator_of}
-use Rattle.msi_edits.specs.Edited.{Fills}
+use Rattle.msi_row_edits.specs.Edited.{EditFullOnlyWithoutRoom}
 use Rattle.msi_parts.specs.Parts.{heading}
 use Rattle.msi_pool.specs.Pool.{Pool}
 use Rattle.msi_stored.specs.Changing.{PackageRule}
 use Rattle.msi_stored.specs.Room.{FillsBy}
-use Rattle.msi.specs.Changing.{PackageFills, failed_in, permission}
+use Rattle.msi.specs.Changing.{FullOnlyWithoutRoom, failed_in, permission}
 use Rattle.msi.specs.Opened.{file_in, pool_in, sound_in, store_in}
 use Rattle.msi.specs.declared.package.Package.{Package}
 use Rattle.msi.proofs.Changed.{failed_too}
@@ -24,7 +24,7 @@ no_room_lacks false true e is full = absurd (cc)
 
 module _ {F : Type 0} {g : Ghosts F} (rule : PackageRule) where
   -- a call that isn't permitted lacks no room
-  pub not_permitted_fills : (it : Package F g) (e : Error) → permission (failed_in it) (sound_in it) ≡ Err e → PackageFills rule (Err e) it it
+  pub not_permitted_fills : (it : Package F g) (e : Error) → permission (failed_in it) (sound_in it) ≡ Err e → FullOnlyWithoutRoom rule (Err e) it it
   not_permitted_fills it e refused is live P h sound =
       let never : permission (failed_in it) (sound_in it) ≡ Err Full = refused ∙ is in
       absurd (no_room_lacks (failed_in it) (sound_in it) Full never refl)
@@ -37,10 +37,10 @@ module _ {F : Type 0} {g : Ghosts F} (rule : PackageRule) where
         by false is = refl
         by true is = let never : true ≡ false = sym (failed_too (file_in new) is) ∙ live in absurd (cc)
 
-    pub streams_fill : (r : Result (Unit {0}) Error) → FillsBy rule r (file_in old) (file_in new) → PackageFills rule r old new
+    pub streams_fill : (r : Result (Unit {0}) Error) → FillsBy rule r (file_in old) (file_in new) → FullOnlyWithoutRoom rule r old new
     streams_fill r full is live P h sound = let both = h.sound sound in full is (lives live) h.tree P both.0 both.1
 
-    pub rows_fill : (r : Result (Unit {0}) Error) → Fills rule r (store_in old) (store_in new) (pool_in old) → PackageFills rule r old new
+    pub rows_fill : (r : Result (Unit {0}) Error) → EditFullOnlyWithoutRoom rule r (store_in old) (store_in new) (pool_in old) → FullOnlyWithoutRoom rule r old new
     rows_fill r full is live P h sound =
         let both = h.sound sound in
         full is (lives live) h.tree P both.0 both.1 (record { pool = h.memory.pool; tables = h.memory.tables ∙ ap (λ (p : Pool). map (heading p.long) P.tables) h.memory.pool })

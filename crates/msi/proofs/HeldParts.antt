@@ -1,11 +1,11 @@
 -- A package is held where its file has the streams of its pool and of its summary.
 use Rattle.std.proofs.Common.{◌≡◌, ◌∙◌, ap, map, sym, true, Ok}
 use Rattle.cfb.proofs.LiveMeaning.{holds_meant}
-use Rattle.cfb.specs.Views.{letters_in}
+use Rattle.cfb.specs.Views.{file_case_table}
 use Rattle.cfb_medium.specs.declared.medium.ReadMedium.{Ghosts}
-use Rattle.msi_meaning.proofs.SoundAnyway.{sound_anyway}
-use Rattle.msi_meaning.specs.Opening.{may_use}
-use Rattle.msi_meaning.specs.Package.{Packed}
+use Rattle.msi_spec.proofs.SoundAnyway.{sound_anyway}
+use Rattle.msi_spec.specs.Opening.{keeps_encoded_names}
+use Rattle.msi_spec.specs.Package.{PackageContent}
 use Rattle.msi_parts.specs.Parts.{heading}
 use Rattle.msi_pool.proofs.PoolRoundTrip.{written_pool_is_read}
 use Rattle.msi_pool.specs.Pool.{data_stream, pool_stream}
@@ -13,13 +13,13 @@ use Rattle.msi_props.proofs.Comeback.{written_set_is_read}
 use Rattle.msi_props.specs.Props.{props_bytes}
 use Rattle.msi_streams.specs.Parts.{HasParts, bytes_of_parts}
 use Rattle.msi.proofs.SavedSound.{packs_sound}
-use Rattle.msi.specs.Opened.{PackageHolds, file_in, kind_in, pool_in, summary_in, tables_in}
+use Rattle.msi.specs.Opened.{PackageHasContent, file_in, kind_in, pool_in, summary_in, tables_in}
 use Rattle.msi.specs.declared.package.Package.{Package}
 
-module _ {F : Type 0} {g : Ghosts F} (it : Package F g) (P : Packed) (kind : kind_in it ≡ P.kind) (summary : (summary_in it).props ≡ P.summary) (pool : (pool_in it).pool ≡ P.pool)
-    (tables : tables_in it ≡ map (heading (pool_in it).pool.long) P.tables) (usable : may_use (letters_in (file_in it)) ≡ true)
-    (parts : HasParts (letters_in (file_in it)) P (bytes_of_parts P.pool P.summary) (file_in it)) where
-  pub held_parts : PackageHolds it P
+module _ {F : Type 0} {g : Ghosts F} (it : Package F g) (P : PackageContent) (kind : kind_in it ≡ P.kind) (summary : (summary_in it).props ≡ P.summary) (pool : (pool_in it).pool ≡ P.pool)
+    (tables : tables_in it ≡ map (heading (pool_in it).pool.long) P.tables) (usable : keeps_encoded_names (file_case_table (file_in it)) ≡ true)
+    (parts : HasParts (file_case_table (file_in it)) P (bytes_of_parts P.pool P.summary) (file_in it)) where
+  pub held_parts : PackageHasContent it P
   held_parts = record {
     tree = parts.after;
     file = holds_meant (file_in it) parts.after parts.means;
@@ -49,6 +49,6 @@ module _ {F : Type 0} {g : Ghosts F} (it : Package F g) (P : Packed) (kind : kin
     };
     sound = λ yes. (parts.means, parts.stores);
     back = λ yes unmodified written writable fit.
-        let both = packs_sound (letters_in (file_in it)) parts.after P parts.stores (record { pool = writable; summary = fit }) parts.summary_at parts.pool_at parts.data_at in
-        (sound_anyway (letters_in (file_in it)) parts.after P both.packs both.sound).gives_back;
+        let both = packs_sound (file_case_table (file_in it)) parts.after P parts.stores (record { pool = writable; summary = fit }) parts.summary_at parts.pool_at parts.data_at in
+        (sound_anyway (file_case_table (file_in it)) parts.after P both.packs both.sound).gives_back;
   }

@@ -9,17 +9,17 @@ use Rattle.msi_pool.specs.declared.stringref.ValueRef.{ValueRef}
 use Rattle.msi_store.proofs.Found.{option_then}
 use Rattle.msi_tables.specs.Held.{rows_held}
 use Rattle.std.proofs.lemmas.List.Elements.{All-head, All-tail}
-use Rattle.cfb_tree.specs.Names.{Letters}
+use Rattle.cfb_tree.specs.Names.{CaseTable}
 use Rattle.cfb_tree.specs.Tree.{Tree}
 use Rattle.msi_columns.specs.declared.column.ColumnType.{ColumnType}
 use Rattle.msi_columns.specs.Cell.{width_of}
 use Rattle.std.proofs.lemmas.List.{length-map}
-use Rattle.msi_meaning.specs.Package.{objects, table_stream}
+use Rattle.msi_spec.specs.Package.{objects, table_stream}
 use Rattle.msi_parts.proofs.Judging.{named_heading}
 use Rattle.msi_parts.specs.Judged.{heading_named}
 use Rattle.msi_parts.specs.Parts.{heading}
-use Rattle.msi_parts.specs.Whole.{IsWhole, Wide}
-use Rattle.msi_stored.specs.Stored.{AreTables, rows_in}
+use Rattle.msi_parts.specs.Whole.{HasFullRows, Wide}
+use Rattle.msi_stored.specs.StoredPackages.{AreTablesOfTree, rows_in}
 use Rattle.msi_tables.specs.Rows.{Row, kinds_of, max_rows, numbers_from, row_at, row_count, rows_of}
 use Rattle.msi_tables.specs.Table.{Heading, Table, table_named}
 
@@ -35,14 +35,14 @@ of_found P (u ∷ us) name t all e = by (bytes_eq u.name name) (of_found P us na
     by true later e = let same : u ≡ t = cc in subst P same (All-head P u us all)
     by false later e = later e
 
-module _ (letters : Letters) (tree : Tree) (long : Bool) (ts : List Table) (read : All (λ t. rows_in letters tree (heading long t) ≡ Some t.rows) ts) where
+module _ (letters : CaseTable) (tree : Tree) (long : Bool) (ts : List Table) (read : All (λ t. rows_in letters tree (heading long t) ≡ Some t.rows) ts) where
   own_rows : (name : List ℕ) (t : Table) (h : Heading) (rows : List Row) → table_named ts name ≡ Some t → heading_named (map (heading long) ts) name ≡ Some h
       → rows_in letters tree h ≡ Some rows → t.rows ≡ rows
   own_rows name t h rows e found is =
       let same : heading long t ≡ h = some_value h (heading_named (map (heading long) ts) name) (heading long t) h (named_heading long ts name ∙ ap (option_map (heading long)) e) found in
       some_value rows (rows_in letters tree h) t.rows rows (subst (λ k. rows_in letters tree k ≡ Some t.rows) same (of_found (λ t. rows_in letters tree (heading long t) ≡ Some t.rows) ts name t read e)) is
 
-  pub are_tables : AreTables letters tree (map (heading long) ts) (table_named ts)
+  pub are_tables : AreTablesOfTree letters tree (map (heading long) ts) (table_named ts)
   are_tables = record {
     names = λ name. option_then (heading long) (λ h. h.name) (table_named ts name) ∙ ap (option_map (λ h. h.name)) (sym (named_heading long ts name));
     columns = λ name. option_then (heading long) (λ h. h.columns) (table_named ts name) ∙ ap (option_map (λ h. h.columns)) (sym (named_heading long ts name));
@@ -71,11 +71,11 @@ rows_whole long ks bytes rows is = by (nat_le (row_count long ks bytes) max_rows
     by true e = let same : all ≡ rows = cc in subst (Wide (length ks)) same wide
     by false e = absurd (cc)
 
-pub tables_whole : (letters : Letters) (tree : Tree) (long : Bool) (ts : List Table) → All (λ t. rows_in letters tree (heading long t) ≡ Some t.rows) ts
-    → (name : List ℕ) → IfSome (table_named ts name) IsWhole
+pub tables_whole : (letters : CaseTable) (tree : Tree) (long : Bool) (ts : List Table) → All (λ t. rows_in letters tree (heading long t) ≡ Some t.rows) ts
+    → (name : List ℕ) → IfSome (table_named ts name) HasFullRows
 tables_whole letters tree long ts read name = by (table_named ts name) refl
   where
-    by : (o : Option Table) → table_named ts name ≡ o → IfSome o IsWhole
+    by : (o : Option Table) → table_named ts name ≡ o → IfSome o HasFullRows
     by None e = tt
     by (Some t) e =
         subst (λ n. Wide n t.rows) (length-map t.columns (λ c. c.kind))

@@ -3,12 +3,12 @@ use Rattle.std.proofs.Common.{◌≡◌, ℕ, Bool, true, false, cond, List, [],
 use Rattle.std.specs.Prelude.{◌&&◌, ◌||◌, encode_utf8_all, filter, not}
 use Rattle.std.specs.List.{flat_map}
 use Rattle.cfb_entries.specs.Listed.{listed}
-use Rattle.cfb_meaning.specs.TreeRules.{Object, a_stream, children_shown}
-use Rattle.cfb_meaning.specs.TreeRules.{name_of as object_name}
-use Rattle.cfb_tree.specs.Names.{Letters}
+use Rattle.cfb_spec.specs.TreeRules.{Object, a_stream, children_shown}
+use Rattle.cfb_spec.specs.TreeRules.{name_of as object_name}
+use Rattle.cfb_tree.specs.Names.{CaseTable}
 use Rattle.cfb_tree.specs.Tree.{Content, nothing, storage, stream}
-use Rattle.msi_meaning.specs.Package.{objects}
-use Rattle.msi_meaning.specs.Streams.{is_special}
+use Rattle.msi_spec.specs.Package.{objects}
+use Rattle.msi_spec.specs.Streams.{is_special}
 use Rattle.msi_texts.specs.StreamName.{is_marked}
 use Rattle.msi_texts.specs.StreamName.{name_of as decoded_name}
 use Rattle.msi.proofs.Owned.{is_listed}
@@ -18,7 +18,7 @@ use Rattle.msi.specs.Lists.{name_listed}
 abbrev told : Object → List ℕ
 told o = encode_utf8_all (decoded_name (object_name o))
 
-pub listed_names : (letters : Letters) (c : Content) → flat_map (name_listed letters) (map listed (children_shown [] c)) ≡ map told (filter (is_listed letters) (objects c))
+pub listed_names : (letters : CaseTable) (c : Content) → flat_map (name_listed letters) (map listed (children_shown [] c)) ≡ map told (filter (is_listed letters) (objects c))
 listed_names letters nothing = refl
 listed_names letters (stream name bits bytes later) = by (is_special letters name) (is_marked name) (listed_names letters later)
   where

@@ -3,8 +3,8 @@ use Rattle.std.proofs.Common.{◌≡◌, ◌∙◌, ℕ, true, false, List, [], 
 use Rattle.std.specs.Prelude.{⊤, Err, IsTrue, Ok, Result, Some, slice_get}
 use Rattle.cfb.proofs.Holding.{tree_held}
 use Rattle.cfb_entries.proofs.StreamsHeld.{stream_held}
-use Rattle.cfb_meaning.proofs.OneTree.{directory_same, layout_same, root_same, tree_unique}
-use Rattle.cfb_meaning.specs.Means.{HasBytes, IsOpenable, Layout, Means, directory}
+use Rattle.cfb_spec.proofs.OneTree.{directory_same, layout_same, root_same, tree_unique}
+use Rattle.cfb_spec.specs.Means.{HasBytes, IsOpenable, Layout, BytesMeanTree, directory}
 use Rattle.cfb_medium.specs.declared.error.Error.{Error}
 use Rattle.cfb_medium.specs.declared.medium.ReadMedium.{Ghosts}
 use Rattle.cfb_opening.proofs.Readings.{means_less}
@@ -12,23 +12,23 @@ use Rattle.cfb_siblings.specs.Places.{LeadsTo}
 use Rattle.cfb_soundness.proofs.Refilling.{entries_same}
 use Rattle.cfb_tree.proofs.OneContent.{siblings_unique}
 use Rattle.cfb_tree.specs.Directory.{Holds as HoldsContent, Siblings}
-use Rattle.cfb_tree.specs.Names.{Letters}
+use Rattle.cfb_tree.specs.Names.{CaseTable}
 use Rattle.cfb_tree.specs.Tree.{Tree}
-use Rattle.msi_meaning.proofs.OpenedIs.{opened_is}
-use Rattle.msi_meaning.proofs.PacksOnce.{packs_once}
-use Rattle.msi_meaning.specs.Package.{MeansPackage, Packed, Packs}
-use Rattle.msi_meaning.specs.declared.kind.PackageType.{PackageType}
+use Rattle.msi_spec.proofs.OpenedIs.{opened_is}
+use Rattle.msi_spec.proofs.PacksOnce.{packs_once}
+use Rattle.msi_spec.specs.Package.{MeansPackage, PackageContent, TreePacksPackage}
+use Rattle.msi_spec.specs.declared.kind.PackageType.{PackageType}
 use Rattle.msi_pool.specs.Pool.{Pool}
 use Rattle.msi_props.specs.Props.{Props}
 use Rattle.msi_store.proofs.ShownTrees.{means_shown}
 use Rattle.msi_stored.specs.Shown.{Breaks, HasBytesOrBreaks, IsBroken}
-use Rattle.msi.specs.Committing.{HoldsSound}
-use Rattle.msi.specs.Opened.{IsOpenedPackage, IsRefused, IsSoundFile, PackageHolds, sound_in}
+use Rattle.msi.specs.Committing.{BytesHoldPackage}
+use Rattle.msi.specs.Opened.{IsOpenedPackage, AreBytesRejected, IsSoundFile, PackageHasContent, sound_in}
 use Rattle.msi.specs.declared.package.Package.{Package}
 
-module _ (letters : Letters) (bytes : List ℕ) (tree : Tree) where
+module _ (letters : CaseTable) (bytes : List ℕ) (tree : Tree) where
   -- no chain of a stream breaks
-  none_breaks : Means letters bytes tree → (name : List ℕ) → Breaks letters bytes name → ⊥
+  none_breaks : BytesMeanTree letters bytes tree → (name : List ℕ) → Breaks letters bytes name → ⊥
   none_breaks (l, m) name b =
       let k = b.layout in
       let s = b.shows in
@@ -48,14 +48,14 @@ module _ (letters : Letters) (bytes : List ℕ) (tree : Tree) where
       let held = stream_held letters (HasBytes bytes l) (directory bytes l) tree b.entry b.of_kind (tree_held l (HasBytes bytes l) letters bytes tree m) (name ∷ []) b.id leads found in
       broken held.bytes held.reads
 
-  can_open : Means letters bytes tree → IsOpenable letters bytes
+  can_open : BytesMeanTree letters bytes tree → IsOpenable letters bytes
   can_open (l, m) = (l, tree, means_less (HasBytes bytes l) (λ e content. ⊤) (λ e content has. tt) l letters bytes tree m)
 
   not_both : (found : PackageType × (Props × Pool)) (e : Error) → ◌≡◌ {A = Result (PackageType × (Props × Pool)) Error} (Ok found) (Err e) → ⊥
   not_both found e is = cc
 
-module _ (letters : Letters) (bytes : List ℕ) (P : Packed) (h : HoldsSound letters bytes P) where
-  pub never_refused : (e : Error) → IsRefused letters bytes e → ⊥
+module _ (letters : CaseTable) (bytes : List ℕ) (P : PackageContent) (h : BytesHoldPackage letters bytes P) where
+  pub never_refused : (e : Error) → AreBytesRejected letters bytes e → ⊥
   never_refused e (inl letters_touch) = let never : true ≡ false = sym h.usable ∙ letters_touch.1 in cc
   never_refused e (inr (inl closed)) = closed.1 (can_open letters bytes h.tree h.means)
   never_refused e (inr (inr told)) = elim (told h.tree (means_shown letters bytes h.tree h.means)) [
@@ -69,10 +69,10 @@ module _ (letters : Letters) (bytes : List ℕ) (P : Packed) (h : HoldsSound let
   pub package_meant : MeansPackage letters bytes P
   package_meant = (h.tree, h.means, h.packs)
 
-  pub same_package : (Q : Packed) → HoldsSound letters bytes Q → P ≡ Q
+  pub same_package : (Q : PackageContent) → BytesHoldPackage letters bytes Q → P ≡ Q
   same_package Q k =
       let same : h.tree ≡ k.tree = tree_unique letters bytes h.tree k.tree h.means k.means in
-      packs_once letters k.tree P Q (subst (λ t. Packs letters t P) same h.packs) k.packs
+      packs_once letters k.tree P Q (subst (λ t. TreePacksPackage letters t P) same h.packs) k.packs
 
-  pub held_again : {F : Type 0} {g : Ghosts F} (it : Package F g) → IsOpenedPackage letters bytes it → PackageHolds it P × IsTrue (sound_in it)
+  pub held_again : {F : Type 0} {g : Ghosts F} (it : Package F g) → IsOpenedPackage letters bytes it → PackageHasContent it P × IsTrue (sound_in it)
   held_again it opened = (opened.holds h.tree P h.means h.packs, opened.sound.1 sound_file)

@@ -6,15 +6,15 @@ use Rattle.std.specs.List.Sorted.{IsStrictlySortedBy}
 use Rattle.std.specs.Ordering.{is_eq}
 use Rattle.std.specs.declared.cmp.Ordering.TheVariants.{Less}
 use Rattle.std.proofs.lemmas.Map.Keys.{sorted_head, sorted_tail}
-use Rattle.cfb_meaning.specs.TreeRules.{Object, a_storage, a_stream}
-use Rattle.cfb_meaning.specs.TreeRules.{name_of as object_name}
-use Rattle.cfb_tree.specs.Names.{Letters, key_cmp, name_cmp, name_key}
+use Rattle.cfb_spec.specs.TreeRules.{Object, a_storage, a_stream}
+use Rattle.cfb_spec.specs.TreeRules.{name_of as object_name}
+use Rattle.cfb_tree.specs.Names.{CaseTable, key_cmp, name_cmp, name_key}
 use Rattle.cfb_tree.specs.Objects.{is_same_name}
 use Rattle.cfb_tree.specs.Tree.{Content, Tree, child_names, nothing, storage, stream}
-use Rattle.msi_meaning.specs.Opening.{may_use}
-use Rattle.msi_meaning.specs.Split.{Stores}
-use Rattle.msi_meaning.specs.Package.{Packed, data_name, is_own, is_stream, object_bytes, objects, pool_name, stream_at, stream_name, summary_name}
-use Rattle.msi_meaning.specs.Streams.{document_summary_name, is_special, signature_ex_name, signature_name, stream_names}
+use Rattle.msi_spec.specs.Opening.{keeps_encoded_names}
+use Rattle.msi_spec.specs.Split.{TreeStoresRest}
+use Rattle.msi_spec.specs.Package.{PackageContent, data_name, is_own, is_stream, object_bytes, objects, pool_name, stream_at, stream_name, summary_name}
+use Rattle.msi_spec.specs.Streams.{document_summary_name, is_special, signature_ex_name, signature_name, stream_names}
 use Rattle.msi_texts.specs.StreamName.{is_marked}
 use Rattle.msi_texts.specs.StreamName.{name_of as decoded_name}
 use Rattle.msi_streams.proofs.Marks.{key_of_same, marked_alike, same_of_key}
@@ -51,14 +51,14 @@ passed here keep x xs e = by (keep x)
     by false = refl
 
 -- a name is another than those above its own
-apart : (letters : Letters) (name key other : List ℕ) → is_same_name letters name key ≡ true → name_cmp letters key other ≡ Less → is_same_name letters name other ≡ false
+apart : (letters : CaseTable) (name key other : List ℕ) → is_same_name letters name key ≡ true → name_cmp letters key other ≡ Less → is_same_name letters name other ≡ false
 apart letters name key other same below = ap (λ k. is_eq (key_cmp k (name_key letters other))) (key_of_same letters name key same) ∙ ap is_eq below
 
 -- the streams that are listed
-abbrev pub is_listed : Letters → Object → Bool
+abbrev pub is_listed : CaseTable → Object → Bool
 is_listed letters o = is_stream o && (not (is_special letters (object_name o)) && not (is_marked (object_name o)))
 
-module _ (letters : Letters) (may : may_use letters ≡ true) where
+module _ (letters : CaseTable) (may : keeps_encoded_names letters ≡ true) where
   -- the names of tables' streams are marked
   marked_any : {X : Type 0} (name : X → List ℕ) (xs : List X) (other : List ℕ) → list_any (λ n. is_same_name letters n other) (map (λ x. stream_name (name x)) xs) ≡ true → is_marked other ≡ true
   marked_any name [] other e = absurd (cc)
@@ -72,7 +72,7 @@ module _ (letters : Letters) (may : may_use letters ≡ true) where
       let same : is_same_name letters other summary_name ≡ true = same_of_key letters other summary_name (sym (key_of_same letters summary_name other e)) in
       behind (is_same_name letters other document_summary_name) _ (ap (λ b. b || (is_same_name letters other signature_name || (is_same_name letters other signature_ex_name || false))) same)
 
-  module _ (P : Packed) where
+  module _ (P : PackageContent) where
     -- one of the database's own streams is the summary or marked
     own_cases : (o : Object) → is_own letters P o ≡ true → (is_same_name letters summary_name (object_name o) ≡ true) ⊎ (is_marked (object_name o) ≡ true)
     own_cases o e = by (either _ _ e)
@@ -109,7 +109,7 @@ module _ (letters : Letters) (may : may_use letters ≡ true) where
     kept_so true true false true h = refl
     kept_so true true false false h = let no : false ≡ true = h refl in absurd (cc)
 
-    pub names_listed : (tree : Tree) → Stores letters tree P → stream_names letters P ≡ map (λ o. encode_utf8_all (decoded_name (object_name o))) (filter (is_listed letters) (objects tree.content))
+    pub names_listed : (tree : Tree) → TreeStoresRest letters tree P → stream_names letters P ≡ map (λ o. encode_utf8_all (decoded_name (object_name o))) (filter (is_listed letters) (objects tree.content))
     names_listed tree stores = ap (map (λ o. encode_utf8_all (decoded_name (object_name o))))
         (ap (filter (λ o. not (is_special letters (object_name o)) && not (is_marked (object_name o)))) stores.streams
         ∙ filter_twice (λ o. is_stream o && not (is_own letters P o)) (λ o. not (is_special letters (object_name o)) && not (is_marked (object_name o))) (is_listed letters)
@@ -126,7 +126,7 @@ module _ (letters : Letters) (may : may_use letters ≡ true) where
   none_later name key keep (storage other facts inside later) same above =
       passed (λ o. is_same_name letters name (object_name o)) keep (a_storage other facts inside) (objects later) (apart letters name key other same above.0) ∙ none_later name key keep later same above.1
 
-  module _ (P : Packed) (name : List ℕ) (free : (o : Object) → is_same_name letters name (object_name o) ≡ true → is_own letters P o ≡ false) where
+  module _ (P : PackageContent) (name : List ℕ) (free : (o : Object) → is_same_name letters name (object_name o) ≡ true → is_own letters P o ≡ false) where
     abbrev is_here : Object → Bool
     is_here o = is_same_name letters name (object_name o)
 
@@ -154,18 +154,18 @@ module _ (letters : Letters) (may : may_use letters ≡ true) where
         by false e rest = rest
 
     -- a stream of no such name is found among all objects
-    pub stream_found : (tree : Tree) → Stores letters tree P → IsStrictlySortedBy (name_cmp letters) (child_names tree.content)
+    pub stream_found : (tree : Tree) → TreeStoresRest letters tree P → IsStrictlySortedBy (name_cmp letters) (child_names tree.content)
         → stream_at letters P.streams name ≡ stream_at letters (objects tree.content) name
     stream_found tree stores rising = ap (λ os. stream_at letters os name) stores.streams ∙ found tree.content rising
 
   -- which names are those of the database's own streams hangs on keys alone
-  own_alike : (P : Packed) (name : List ℕ) (o : Object) → is_same_name letters name (object_name o) ≡ true → is_own letters P o ≡ is_own letters P (a_stream name 0 [])
+  own_alike : (P : PackageContent) (name : List ℕ) (o : Object) → is_same_name letters name (object_name o) ≡ true → is_own letters P o ≡ is_own letters P (a_stream name 0 [])
   own_alike P name o same =
       ap (λ k. list_any (λ n. is_eq (key_cmp (name_key letters n) k)) (summary_name ∷ stream_name pool_name ∷ stream_name data_name ∷ map (λ t. stream_name t.name) P.tables))
       (sym (key_of_same letters name (object_name o) same))
 
   -- a name that calls take is none of these
-  pub taken_free : (P : Packed) (name : List ℕ) → is_special letters name ≡ false → is_marked name ≡ false → (o : Object) → is_same_name letters name (object_name o) ≡ true → is_own letters P o ≡ false
+  pub taken_free : (P : PackageContent) (name : List ℕ) → is_special letters name ≡ false → is_marked name ≡ false → (o : Object) → is_same_name letters name (object_name o) ≡ true → is_own letters P o ≡ false
   taken_free P name special marked o same = own_alike P name o same ∙ by (is_own letters P (a_stream name 0 [])) refl
     where
       by : (b : Bool) → is_own letters P (a_stream name 0 []) ≡ b → b ≡ false
@@ -173,7 +173,7 @@ module _ (letters : Letters) (may : may_use letters ≡ true) where
       by true e = let no : true ≡ false = sym (own_told P (a_stream name 0 []) e) ∙ ap (λ b. b || is_marked name) special ∙ marked in absurd (cc)
 
   -- nor is the signature's, where it isn't the summary's
-  pub signature_free : (P : Packed) → is_same_name letters summary_name signature_name ≡ false → (o : Object) → is_same_name letters signature_name (object_name o) ≡ true → is_own letters P o ≡ false
+  pub signature_free : (P : PackageContent) → is_same_name letters summary_name signature_name ≡ false → (o : Object) → is_same_name letters signature_name (object_name o) ≡ true → is_own letters P o ≡ false
   signature_free P other o same = own_alike P signature_name o same ∙ by (is_own letters P (a_stream signature_name 0 [])) refl
     where
       by : (b : Bool) → is_own letters P (a_stream signature_name 0 []) ≡ b → b ≡ false
@@ -184,12 +184,12 @@ module _ (letters : Letters) (may : may_use letters ≡ true) where
       ]
 
   -- where it is the summary's, no stream is the signature
-  pub signature_own : (P : Packed) → is_same_name letters summary_name signature_name ≡ true → (o : Object) → is_same_name letters signature_name (object_name o) ≡ true → is_own letters P o ≡ true
+  pub signature_own : (P : PackageContent) → is_same_name letters summary_name signature_name ≡ true → (o : Object) → is_same_name letters signature_name (object_name o) ≡ true → is_own letters P o ≡ true
   signature_own P summary o same = own_alike P signature_name o same
       ∙ ap (λ b. b || list_any (λ n. is_same_name letters n signature_name) (stream_name pool_name ∷ stream_name data_name ∷ map (λ t. stream_name t.name) P.tables)) summary
 
   -- nothing is found by a name that only the database's own streams have
-  pub none_found : (P : Packed) (tree : Tree) (name : List ℕ) → Stores letters tree P → ((o : Object) → is_same_name letters name (object_name o) ≡ true → is_own letters P o ≡ true) → stream_at letters P.streams name ≡ None
+  pub none_found : (P : PackageContent) (tree : Tree) (name : List ℕ) → TreeStoresRest letters tree P → ((o : Object) → is_same_name letters name (object_name o) ≡ true → is_own letters P o ≡ true) → stream_at letters P.streams name ≡ None
   none_found P tree name stores own = ap (λ os. stream_at letters os name) stores.streams ∙ ap (option_and_then object_bytes)
       (none_kept (λ o. is_same_name letters name (object_name o)) (λ o. is_stream o && not (is_own letters P o)) (λ o same. out (is_stream o) (is_own letters P o) (own o same)) (objects tree.content))
     where

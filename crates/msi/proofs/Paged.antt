@@ -1,23 +1,23 @@
 -- A package whose page is another is stored as before: no cell and no count tells of the page.
 use Rattle.std.proofs.Common.{◌≡◌, ◌∙◌, IsTrue, ap, false, map, subst, sym, true}
-use Rattle.cfb.specs.Views.{letters_in}
+use Rattle.cfb.specs.Views.{file_case_table}
 use Rattle.cfb_medium.specs.declared.medium.ReadMedium.{Ghosts}
-use Rattle.cfb_tree.specs.Names.{Letters}
+use Rattle.cfb_tree.specs.Names.{CaseTable}
 use Rattle.cfb_tree.specs.Tree.{Tree}
-use Rattle.msi_meaning.specs.Package.{Packed}
-use Rattle.msi_meaning.specs.Split.{Stores}
+use Rattle.msi_spec.specs.Package.{PackageContent}
+use Rattle.msi_spec.specs.Split.{TreeStoresRest}
 use Rattle.msi_parts.specs.Parts.{heading}
 use Rattle.msi_pool.specs.Pool.{Pool}
 use Rattle.msi_pool.specs.PoolState.{PoolState}
 use Rattle.msi_props.specs.Held.{SetState}
-use Rattle.msi_stored.specs.Changing.{StoresSound}
+use Rattle.msi_stored.specs.Changing.{StoresSoundPackage}
 use Rattle.msi_texts.specs.declared.codepage.CodePage.{CodePage}
 use Rattle.msi.specs.Changing.{with_page}
-use Rattle.msi.specs.Opened.{PackageHolds, file_in, kind_in, pool_in, sound_in, summary_in, tables_in, written_in}
+use Rattle.msi.specs.Opened.{PackageHasContent, file_in, kind_in, pool_in, sound_in, summary_in, tables_in, written_in}
 use Rattle.msi.specs.declared.package.Package.{Package}
 
-module _ (letters : Letters) (tree : Tree) (page : CodePage) (P : Packed) where
-  stores_paged : Stores letters tree P → Stores letters tree (with_page page P)
+module _ (letters : CaseTable) (tree : Tree) (page : CodePage) (P : PackageContent) where
+  stores_paged : TreeStoresRest letters tree P → TreeStoresRest letters tree (with_page page P)
   stores_paged s = record {
     class = s.class;
     rising = s.rising;
@@ -31,7 +31,7 @@ module _ (letters : Letters) (tree : Tree) (page : CodePage) (P : Packed) where
     storages = s.storages;
   }
 
-  sound_paged : StoresSound letters tree P → StoresSound letters tree (with_page page P)
+  sound_paged : StoresSoundPackage letters tree P → StoresSoundPackage letters tree (with_page page P)
   sound_paged s = record {
     usable = s.usable;
     stores = stores_paged s.stores;
@@ -49,14 +49,14 @@ module _ (letters : Letters) (tree : Tree) (page : CodePage) (P : Packed) where
   }
 
 -- it is held where the pool in memory is changed so
-pub holds_paged : {F : Type 0} {g : Ghosts F} (old new : Package F g) (page : CodePage) (P : Packed) → file_in new ≡ file_in old → tables_in new ≡ tables_in old → kind_in new ≡ kind_in old
+pub holds_paged : {F : Type 0} {g : Ghosts F} (old new : Package F g) (page : CodePage) (P : PackageContent) → file_in new ≡ file_in old → tables_in new ≡ tables_in old → kind_in new ≡ kind_in old
     → summary_in new ≡ summary_in old → sound_in new ≡ sound_in old → written_in new ≡ written_in old
-    → pool_in new ≡ record { pool = record (pool_in old).pool { page = page }; modified = true } → PackageHolds old P → PackageHolds new (with_page page P)
+    → pool_in new ≡ record { pool = record (pool_in old).pool { page = page }; modified = true } → PackageHasContent old P → PackageHasContent new (with_page page P)
 holds_paged old new page P file tables kind summary sound written pool h = record {
   tree = h.tree;
   file = rw file h.file;
   usable = rw file h.usable;
-  stores = rw file (stores_paged (letters_in (file_in old)) h.tree page P h.stores);
+  stores = rw file (stores_paged (file_case_table (file_in old)) h.tree page P h.stores);
   memory = record {
     kind = kind ∙ h.memory.kind;
     summary = ap (λ (s : SetState). s.props) summary ∙ h.memory.summary;
@@ -66,6 +66,6 @@ holds_paged old new page P file tables kind summary sound written pool h = recor
   pool = λ unmodified writable. let no : true ≡ false = sym (ap (λ (p : PoolState). p.modified) pool) ∙ unmodified in absurd (cc);
   summary = λ is fit. rw file (h.summary (sym written ∙ is) fit);
   three = rw file h.three;
-  sound = λ is. let both = h.sound (subst IsTrue sound is) in rw file (both.0, sound_paged (letters_in (file_in old)) h.tree page P both.1);
+  sound = λ is. let both = h.sound (subst IsTrue sound is) in rw file (both.0, sound_paged (file_case_table (file_in old)) h.tree page P both.1);
   back = λ is unmodified written writable fit. let no : true ≡ false = sym (ap (λ (p : PoolState). p.modified) pool) ∙ unmodified in absurd (cc);
 }

@@ -1,7 +1,7 @@
 -- Whether a package may be changed, and what a call that isn't permitted leaves.
 use Rattle.std.proofs.Common.{◌≡◌, ◌∙◌, Bool, ap, false, inl, inr, refl, subst, sym, true}
 use Rattle.std.specs.Prelude.{Err, Ok}
-use Rattle.cfb_live.specs.Doing.{IsFault}
+use Rattle.cfb_tree_edits.specs.LiveTreeRules.{IsFaultOrFull}
 use Rattle.cfb_medium.specs.declared.error.Error.{Error}
 use Rattle.cfb_medium.specs.declared.error.Error.TheVariants.{Failed, InvalidData}
 use Rattle.cfb_medium.specs.declared.medium.ReadMedium.{Ghosts}
@@ -28,7 +28,7 @@ not_permitted {F} {g} rule it e is = by (failed_in it) refl (sound_in it) refl i
           failed = λ yes. ap (λ x. Err x) same;
           unsound = λ no. let never : true ≡ false = sym failed ∙ no in absurd (cc);
           done = tt;
-          refused = λ P h sound. inl (subst IsFault (sym same) (inl tt));
+          refused = λ P h sound. inl (subst IsFaultOrFull (sym same) (inl tt));
           rests = inr keeps;
           seen = (refl, refl);
         }

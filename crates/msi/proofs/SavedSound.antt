@@ -2,33 +2,33 @@
 use Rattle.std.proofs.Common.{◌≡◌, ◌∙◌, ap, sym}
 use Rattle.std.specs.Prelude.{Ok, Some}
 use Rattle.cfb.proofs.LiveMeaning.{holds_meant}
-use Rattle.cfb.specs.Views.{letters_in, mini_of}
-use Rattle.cfb_live.specs.Live.{live_of}
+use Rattle.cfb.specs.Views.{file_case_table, mini_of}
+use Rattle.cfb_tree_edits.specs.Live.{live_of}
 use Rattle.cfb_medium.specs.declared.medium.ReadMedium.{Ghosts}
-use Rattle.cfb_owners.proofs.SoundIs.{sound_is}
-use Rattle.cfb_owners.specs.Kept.{layout_of}
-use Rattle.cfb_tree.specs.Names.{Letters}
+use Rattle.cfb_ownership.proofs.SoundIs.{sound_is}
+use Rattle.cfb_ownership.specs.LiveInvariant.{layout_of}
+use Rattle.cfb_tree.specs.Names.{CaseTable}
 use Rattle.cfb_tree.specs.Tree.{Tree}
-use Rattle.msi_meaning.specs.Package.{Packed, Packs, data_name, objects, pool_name, stream_at, summary_name, table_stream}
-use Rattle.msi_meaning.specs.Sound.{IsSoundPackage}
+use Rattle.msi_spec.specs.Package.{PackageContent, TreePacksPackage, data_name, objects, pool_name, stream_at, summary_name, table_stream}
+use Rattle.msi_spec.specs.Sound.{IsSoundPackage}
 use Rattle.msi_pool.specs.Pool.{data_stream, pool_stream}
 use Rattle.msi_props.proofs.Comeback.{written_set_is_read}
 use Rattle.msi_props.specs.Props.{props_bytes, props_read}
-use Rattle.msi_stored.specs.Changing.{StoresSound}
+use Rattle.msi_stored.specs.Changing.{StoresSoundPackage}
 use Rattle.msi_stored.specs.Shown.{bytes_in}
 use Rattle.msi.proofs.WrittenPool.{HoldsBack, written_pool_gives_back}
 use Rattle.msi.proofs.WrittenSummary.{written_summary_gives_back}
-use Rattle.msi.specs.Changing.{PackageIsFit, PackageIsWritten}
-use Rattle.msi.specs.Committing.{HoldsSound}
+use Rattle.msi.specs.Changing.{PackageCanBeWritten, PackageIsWritten}
+use Rattle.msi.specs.Committing.{BytesHoldPackage}
 use Rattle.msi.specs.Opened.{file_in}
 use Rattle.msi.specs.declared.package.Package.{Package}
 
 -- the tree packs the package, which is sound so
-pub record PacksSound (letters : Letters) (tree : Tree) (P : Packed) : Type 0 where
-  pub packs : Packs letters tree P
+pub record PacksSound (letters : CaseTable) (tree : Tree) (P : PackageContent) : Type 0 where
+  pub packs : TreePacksPackage letters tree P
   pub sound : IsSoundPackage letters tree P packs
 
-module _ (letters : Letters) (tree : Tree) (P : Packed) (s : StoresSound letters tree P) (fit : PackageIsFit P) where
+module _ (letters : CaseTable) (tree : Tree) (P : PackageContent) (s : StoresSoundPackage letters tree P) (fit : PackageCanBeWritten P) where
   -- what was written of the summary is read as it was
   summary_back : props_read (props_bytes P.summary) ≡ Ok P.summary
   summary_back = written_set_is_read P.summary fit.summary.writable ∙ ap (λ n. Ok (record P.summary { sections = n })) (sym s.named.one_section)
@@ -78,14 +78,14 @@ module _ (letters : Letters) (tree : Tree) (P : Packed) (s : StoresSound letters
 
 module _ {F : Type 0} {g : Ghosts F} where
   -- the bytes of its file hold it
-  pub saved_found : (it : Package F g) (P : Packed) → PackageIsWritten it P → HoldsSound (letters_in (file_in it)) (bytes_in (file_in it)) P
+  pub saved_found : (it : Package F g) (P : PackageContent) → PackageIsWritten it P → BytesHoldPackage (file_case_table (file_in it)) (bytes_in (file_in it)) P
   unfolding live_of
   saved_found it P s =
       let file = file_in it in
       let m = s.means.live in
       let h = holds_meant file s.tree s.means in record {
         usable = s.holds.usable;
-        container = (layout_of (live_of (mini_of file)) m.who m.held.root m.held.ids, s.tree, sound_is (live_of (mini_of file)) m.who (letters_in file) s.tree m.held);
+        container = (layout_of (live_of (mini_of file)) m.who m.held.root m.held.ids, s.tree, sound_is (live_of (mini_of file)) m.who (file_case_table file) s.tree m.held);
         tree = s.tree;
         means = (h.layout, h.means);
         packs = s.packs;

@@ -8,20 +8,20 @@ use Rattle.std.proofs.lemmas.Bool.Decides.{nat_tests}
 use Rattle.cfb_medium.specs.Versions.{stream_len_mask}
 use Rattle.cfb_medium.specs.declared.version.Version.{Version}
 use Rattle.cfb_medium.specs.declared.version.Version.TheVariants.{V3, V4}
-use Rattle.cfb_tree.specs.Names.{Letters}
+use Rattle.cfb_tree.specs.Names.{CaseTable}
 use Rattle.cfb_tree.specs.Objects.{Object}
 use Rattle.cfb_tree.specs.Tree.{Tree}
-use Rattle.msi_creating.proofs.Made.{made, made_is}
-use Rattle.msi_creating.proofs.Writable.{new_back}
-use Rattle.msi_meaning.specs.Calls.{bare_package, IsNew, Rows3}
-use Rattle.msi_meaning.specs.Package.{at_name, is_stream, objects, Packed}
-use Rattle.msi_meaning.specs.declared.kind.PackageType.{PackageType}
-use Rattle.msi_meaning.specs.declared.kind.PackageType.TheVariants.{Installer, Patch, Transform}
+use Rattle.msi_new_package.proofs.Made.{made, made_is}
+use Rattle.msi_new_package.proofs.Writable.{new_back}
+use Rattle.msi_spec.specs.Calls.{bare_package, IsNew, Rows3}
+use Rattle.msi_spec.specs.Package.{at_name, is_stream, objects, PackageContent}
+use Rattle.msi_spec.specs.declared.kind.PackageType.{PackageType}
+use Rattle.msi_spec.specs.declared.kind.PackageType.TheVariants.{Installer, Patch, Transform}
 use Rattle.msi_pool.specs.Pool.{data_stream, pool_stream, Pool}
 use Rattle.msi_pool.specs.PoolState.{is_in_size}
 use Rattle.msi_props.specs.Props.{props_bytes}
 use Rattle.msi_rewritten.proofs.Names.{storage_listed}
-use Rattle.msi_stored.specs.Changing.{StoresSound}
+use Rattle.msi_stored.specs.Changing.{StoresSoundPackage}
 use Rattle.msi_streams.specs.Parts.{CanHaveThree, HasNoStorageAt, IsTooLong}
 
 -- ---- the lengths, computed from the definitions
@@ -51,12 +51,12 @@ pub mask_wide : (v : Version) → 4294967295 ≤ stream_len_mask v
 mask_wide V3 = omega (arith)
 mask_wide V4 = omega (arith)
 
-module _ (kind : PackageType) (P : Packed) (new : IsNew kind P) where
+module _ (kind : PackageType) (P : PackageContent) (new : IsNew kind P) where
   pool_is : made.1 ≡ P.pool
-  pool_is = ap (λ (x : Rows3 × Pool). x.1) (made_is kind new.0 new.1) ∙ sym (ap (λ (Q : Packed). Q.pool) new.2.6)
+  pool_is = ap (λ (x : Rows3 × Pool). x.1) (made_is kind new.0 new.1) ∙ sym (ap (λ (Q : PackageContent). Q.pool) new.2.6)
 
   summary_is : (bare_package kind).summary ≡ P.summary
-  summary_is = sym (ap (λ (Q : Packed). Q.summary) new.2.6)
+  summary_is = sym (ap (λ (Q : PackageContent). Q.summary) new.2.6)
 
   -- each stream of its parts fits in any file
   pub new_is_short : (most : ℕ) → 4294967295 ≤ most → IsTooLong most P.pool P.summary → ⊥
@@ -70,10 +70,10 @@ module _ (kind : PackageType) (P : Packed) (new : IsNew kind P) where
       not_both one other = let never : false ≡ true = sym one ∙ other in cc
 
   -- its tree has no storage
-  no_storages : (letters : Letters) (tree : Tree) → StoresSound letters tree P → filter (λ o. not (is_stream o)) (objects tree.content) ≡ []
-  no_storages letters tree s = sym s.stores.storages ∙ ap (λ (Q : Packed). Q.storages) new.2.6
+  no_storages : (letters : CaseTable) (tree : Tree) → StoresSoundPackage letters tree P → filter (λ o. not (is_stream o)) (objects tree.content) ≡ []
+  no_storages letters tree s = sym s.stores.storages ∙ ap (λ (Q : PackageContent). Q.storages) new.2.6
 
-  pub new_can : (letters : Letters) (tree : Tree) → StoresSound letters tree P → CanHaveThree letters tree
+  pub new_can : (letters : CaseTable) (tree : Tree) → StoresSoundPackage letters tree P → CanHaveThree letters tree
   new_can letters tree s = record { summary = none _; pool = none _; pool_data = none _ }
     where
       by : (name : List ℕ) (o : Object) → at_name letters (objects tree.content) name ≡ Some o → (b : Bool) → is_stream o ≡ b → is_stream o ≡ true

@@ -13,7 +13,7 @@ use Rattle.msi_texts.specs.Numbers.{le_bytes}
 use Rattle.msi_texts.specs.Page.{encoded, decoded, id_of}
 use Rattle.msi_texts.proofs.PageRoundTrip.{fitting_text_comes_back}
 use Rattle.msi_pool.proofs.PoolRoundTrip.{heads_read, page_comes_back, texts_read}
-use Rattle.msi_pool.specs.Pool.{Pool, Place, IsHead, Pooled, Stored, head_bytes, head_of, stored_place, stored_of, pool_stream, data_stream}
+use Rattle.msi_pool.specs.Pool.{Pool, PoolEntry, IsHead, Pooled, StoredText, head_bytes, head_of, stored_place, stored_of, pool_stream, data_stream}
 use Rattle.msi_pool.specs.PoolKept.{IsKeptPlace, AreKept, IsWritable}
 
 head_numbers : (len count : ℕ) → len < 2 ^ 32 → count < 2 ^ 16 → (count ≡ 0 → len ≡ 0) → IsHead len count (head_bytes len count)
@@ -37,13 +37,13 @@ empty_encoded page.Utf8 = refl
 empty_encoded _ = refl
 
 -- a text that fits comes back from its bytes
-back : (page : CodePage) (p : Place) → IsKeptPlace page p → decoded page (encoded page p.text) ≡ p.text
+back : (page : CodePage) (p : PoolEntry) → IsKeptPlace page p → decoded page (encoded page p.text) ≡ p.text
 back page p kept = fitting_text_comes_back page p.text (IsUtf8-from_is_utf8 p.text kept.utf8) kept.fit
 
-abbrev Gives : CodePage → Stored → Type 0
+abbrev Gives : CodePage → StoredText → Type 0
 Gives page s = encoded page (decoded page s.0) ≡ s.0
 
-texts_give : (page : CodePage) (ps : List Place) → AreKept page ps → All (Gives page) (map (stored_place page) ps)
+texts_give : (page : CodePage) (ps : List PoolEntry) → AreKept page ps → All (Gives page) (map (stored_place page) ps)
 texts_give page [] kept = λ k d l. absurd (omega (arith, l))
 texts_give page (p ∷ ps) kept = All-cons (Gives page) (stored_place page p) (map (stored_place page) ps) (ap (encoded page) (back page p kept.0)) (texts_give page ps kept.1)
 

@@ -9,9 +9,9 @@ use Rattle.msi_texts.proofs.PageRoundTrip.{fitting_text_comes_back}
 use Rattle.msi_texts.specs.Numbers.{le_bytes}
 use Rattle.msi_texts.specs.Page.{encoded}
 use Rattle.msi_texts.specs.declared.codepage.CodePage.{CodePage}
-use Rattle.msi_meaning.proofs.SystemRows.{bytes_same}
+use Rattle.msi_spec.proofs.SystemRows.{bytes_same}
 use Rattle.msi_props.specs.Kept.{IsKeptValue, SetIsWritable}
-use Rattle.msi_props.specs.Props.{Head, Property, Props, all_give_back, gives_back, head_at, head_bytes, is_i1, offsets_from, page_at, properties_at, props_bytes, section_at, system_number, texts_give_back}
+use Rattle.msi_props.specs.Props.{Head, Property, Props, all_give_back, property_round_trips, head_at, head_bytes, is_i1, offsets_from, page_at, properties_at, props_bytes, section_at, system_number, texts_give_back}
 use Rattle.msi_props.specs.Props as property
 use Rattle.msi_props.proofs.Comeback.{allowed, eight_lens, ends, flat, grouped, head_read, nothing, page_back, three_lens}
 use Rattle.msi_props.proofs.Fronts.{held, number_front}
@@ -27,14 +27,14 @@ few_versions true = omega arith
 few_versions false = omega arith
 
 -- the bytes of a kept value give back what they are
-held_gives : (p : CodePage) (v : Property) → IsKeptValue p v → gives_back p (held p v) ≡ true
+held_gives : (p : CodePage) (v : Property) → IsKeptValue p v → property_round_trips p (held p v) ≡ true
 held_gives p (property.text t) kept =
     ap (λ x. bytes_eq (encoded p x) (encoded p t)) (fitting_text_comes_back p t (IsUtf8-from_is_utf8 t kept.0) kept.1) ∙ bytes_same (encoded p t)
 held_gives p _ kept = refl
 
-all_give : (p : CodePage) (vs : List (ℕ × Property)) → AllByRecursion (λ v. IsKeptValue p v.1) vs → list_all (λ (v : ℕ × Property). gives_back p v.1) (map (λ (v : ℕ × Property). (v.0, held p v.1)) vs) ≡ true
+all_give : (p : CodePage) (vs : List (ℕ × Property)) → AllByRecursion (λ v. IsKeptValue p v.1) vs → list_all (λ (v : ℕ × Property). property_round_trips p v.1) (map (λ (v : ℕ × Property). (v.0, held p v.1)) vs) ≡ true
 all_give p [] kept = refl
-all_give p (v ∷ vs) kept = ap (λ b. b && list_all (λ (v : ℕ × Property). gives_back p v.1) (map (λ (v : ℕ × Property). (v.0, held p v.1)) vs)) (held_gives p v.1 kept.0) ∙ all_give p vs kept.1
+all_give p (v ∷ vs) kept = ap (λ b. b && list_all (λ (v : ℕ × Property). property_round_trips p v.1) (map (λ (v : ℕ × Property). (v.0, held p v.1)) vs)) (held_gives p v.1 kept.0) ∙ all_give p vs kept.1
 
 module _ (s : Props) (kept : SetIsWritable s) where
   abbrev vs : List (ℕ × Property)

@@ -1,24 +1,24 @@
 -- A package in memory, whose rows and streams lie in its file, and what opening tells.
 use Rattle.std.specs.Prelude.{◌≡◌, ◌⊎◌, ◌↔◌, ℕ, false, true, Bool, List, Ok, Err, IsTrue}
-use Rattle.cfb.specs.Doing.{FileMeans}
-use Rattle.cfb.specs.Streams.{FileHolds}
-use Rattle.cfb.specs.Views.{letters_in}
+use Rattle.cfb.specs.FollowedRules.{FileMeansTree}
+use Rattle.cfb.specs.Streams.{FileHoldsTree}
+use Rattle.cfb.specs.Views.{file_case_table}
 use Rattle.cfb.specs.Views as read
 use Rattle.cfb.specs.declared.compound_file.CompoundFile.{CompoundFile}
-use Rattle.cfb_meaning.specs.Means.{IsOpenable, Means}
-use Rattle.cfb_meaning.specs.Sound.{IsSound}
+use Rattle.cfb_spec.specs.Means.{IsOpenable, BytesMeanTree}
+use Rattle.cfb_spec.specs.Sound.{IsSoundContainer}
 use Rattle.cfb_medium.specs.declared.error.Error.{Error}
 use Rattle.cfb_medium.specs.declared.error.Error.TheVariants.{InvalidData, InvalidInput}
 use Rattle.cfb_medium.specs.declared.medium.ReadMedium.{Ghosts}
-use Rattle.cfb_tree.specs.Names.{Letters}
+use Rattle.cfb_tree.specs.Names.{CaseTable}
 use Rattle.cfb_tree.specs.Tree.{Tree}
-use Rattle.msi_meaning.specs.Opening.{may_use, opened}
-use Rattle.msi_meaning.specs.Package.{Packed, Packs}
-use Rattle.msi_meaning.specs.Sound.{IsSoundPackage}
-use Rattle.msi_meaning.specs.SoundParts.{GivesBack}
-use Rattle.msi_meaning.specs.Split.{HasPool, HasSummary, Stores}
-use Rattle.msi_meaning.specs.declared.kind.PackageType.{PackageType}
-use Rattle.msi_parts.specs.Parts.{HasSchema, IsMemoryOf}
+use Rattle.msi_spec.specs.Opening.{keeps_encoded_names, opened}
+use Rattle.msi_spec.specs.Package.{PackageContent, TreePacksPackage}
+use Rattle.msi_spec.specs.Sound.{IsSoundPackage}
+use Rattle.msi_spec.specs.SoundParts.{GivesBack}
+use Rattle.msi_spec.specs.Split.{HasPool, HasSummary, TreeStoresRest}
+use Rattle.msi_spec.specs.declared.kind.PackageType.{PackageType}
+use Rattle.msi_parts.specs.Parts.{HasSchema, MemoryIsPackage}
 use Rattle.msi_pool.specs.PoolKept.{IsWritable}
 use Rattle.msi_pool.specs.PoolState.{PoolState}
 use Rattle.msi_props.specs.Held.{SetState}
@@ -26,7 +26,7 @@ use Rattle.msi_props.specs.Kept.{SetIsWritable}
 use Rattle.msi_props.specs.Props.{Props}
 use Rattle.msi_store.specs.Stores as store
 use Rattle.msi_store.specs.declared.store.Store.{Store}
-use Rattle.msi_stored.specs.Changing.{StoresSound}
+use Rattle.msi_stored.specs.Changing.{StoresSoundPackage}
 use Rattle.msi_stored.specs.Shown.{IsBrokenPart, ShowsTree}
 use Rattle.msi_streams.specs.Parts.{HasThree}
 use Rattle.msi_summary.specs.Summary.{summary_format}
@@ -39,15 +39,15 @@ pub record SummaryIsFit (s : Props) : Type 0 where
   pub format : s.format ≡ summary_format
 
 -- THE BYTES HOLD A SOUND PACKAGE: their container is sound, and the tree that it means packs a package that is
-abbrev pub IsSoundFile : Letters → List ℕ → Type 0
-IsSoundFile letters bytes = IsSound letters bytes
-    × (tree : Tree) × Means letters bytes tree × (P : Packed) × (packs : Packs letters tree P) × IsSoundPackage letters tree P packs
+abbrev pub IsSoundFile : CaseTable → List ℕ → Type 0
+IsSoundFile letters bytes = IsSoundContainer letters bytes
+    × (tree : Tree) × BytesMeanTree letters bytes tree × (P : PackageContent) × (packs : TreePacksPackage letters tree P) × IsSoundPackage letters tree P packs
 
 -- WHY BYTES ARE REFUSED: the letter table touches encoded names; the container can't be opened; or each tree that they show is refused
 -- so, or a stream that opening reads breaks, which is broken data
-abbrev pub IsRefused : Letters → List ℕ → Error → Type 0
-IsRefused letters bytes e =
-    ((e ≡ InvalidInput) × (may_use letters ≡ false))
+abbrev pub AreBytesRejected : CaseTable → List ℕ → Error → Type 0
+AreBytesRejected letters bytes e =
+    ((e ≡ InvalidInput) × (keeps_encoded_names letters ≡ false))
     ⊎ ((e ≡ InvalidData) × (IsOpenable letters bytes → ⊥))
     ⊎ ((tree : Tree) → ShowsTree letters bytes tree → IsBrokenPart letters bytes e ⊎ (opened letters tree ≡ Err e))
 
@@ -79,8 +79,8 @@ module _ {F : Type 0} {g : Ghosts F} where
   written_in it = it.is_summary_written
 
   -- it was only read
-  pub record PackageRests (old new : Package F g) : Type 0 where
-    pub file : read.FileRests (file_in old) (file_in new)
+  pub record OnlyReadsPackage (old new : Package F g) : Type 0 where
+    pub file : read.OnlyReadsFile (file_in old) (file_in new)
     pub tables : tables_in new ≡ tables_in old
     pub kind : kind_in new ≡ kind_in old
     pub pool : pool_in new ≡ pool_in old
@@ -91,23 +91,23 @@ module _ {F : Type 0} {g : Ghosts F} where
   -- THE PACKAGE IN MEMORY IS THIS ONE: a tree that its file holds stores it, and memory has its other parts, which are those of their
   -- streams unless they were changed, or can't be written as they are. Of a sound package the file means the tree, which stores a sound one,
   -- and where neither part was changed their texts there give back their bytes.
-  pub record PackageHolds (it : Package F g) (P : Packed) : Type 0 where
+  pub record PackageHasContent (it : Package F g) (P : PackageContent) : Type 0 where
     pub tree : Tree
-    pub file : FileHolds (file_in it) tree
-    pub usable : may_use (letters_in (file_in it)) ≡ true
-    pub stores : Stores (letters_in (file_in it)) tree P
-    pub memory : IsMemoryOf (kind_in it) (summary_in it).props (pool_in it).pool (tables_in it) P
-    pub pool : (pool_in it).modified ≡ false → IsWritable P.pool → HasPool (letters_in (file_in it)) tree P.pool
-    pub summary : written_in it ≡ true → SummaryIsFit P.summary → HasSummary (letters_in (file_in it)) tree P.summary
-    pub three : HasThree (letters_in (file_in it)) tree
-    pub sound : IsTrue (sound_in it) → FileMeans (file_in it) tree × StoresSound (letters_in (file_in it)) tree P
-    pub back : IsTrue (sound_in it) → (pool_in it).modified ≡ false → written_in it ≡ true → IsWritable P.pool → SummaryIsFit P.summary → GivesBack (letters_in (file_in it)) tree
+    pub file : FileHoldsTree (file_in it) tree
+    pub usable : keeps_encoded_names (file_case_table (file_in it)) ≡ true
+    pub stores : TreeStoresRest (file_case_table (file_in it)) tree P
+    pub memory : MemoryIsPackage (kind_in it) (summary_in it).props (pool_in it).pool (tables_in it) P
+    pub pool : (pool_in it).modified ≡ false → IsWritable P.pool → HasPool (file_case_table (file_in it)) tree P.pool
+    pub summary : written_in it ≡ true → SummaryIsFit P.summary → HasSummary (file_case_table (file_in it)) tree P.summary
+    pub three : HasThree (file_case_table (file_in it)) tree
+    pub sound : IsTrue (sound_in it) → FileMeansTree (file_in it) tree × StoresSoundPackage (file_case_table (file_in it)) tree P
+    pub back : IsTrue (sound_in it) → (pool_in it).modified ≡ false → written_in it ≡ true → IsWritable P.pool → SummaryIsFit P.summary → GivesBack (file_case_table (file_in it)) tree
 
   -- Opened over these bytes under this letter table: kind, summary and pool are those that each tree tells that they show, and so are the
   -- tables; each package that the tree packs that they mean is held; and it was judged exactly whether they hold a sound package.
-  pub record IsOpenedPackage (letters : Letters) (bytes : List ℕ) (it : Package F g) : Type 0 where
-    pub compared : letters_in (file_in it) ≡ letters
+  pub record IsOpenedPackage (letters : CaseTable) (bytes : List ℕ) (it : Package F g) : Type 0 where
+    pub compared : file_case_table (file_in it) ≡ letters
     pub told : (tree : Tree) → ShowsTree letters bytes tree → opened letters tree ≡ Ok (kind_in it, ((summary_in it).props, (pool_in it).pool))
     pub schema : (tree : Tree) → ShowsTree letters bytes tree → HasSchema letters tree (pool_in it).pool (tables_in it)
-    pub holds : (tree : Tree) (P : Packed) → Means letters bytes tree → Packs letters tree P → PackageHolds it P
+    pub holds : (tree : Tree) (P : PackageContent) → BytesMeanTree letters bytes tree → TreePacksPackage letters tree P → PackageHasContent it P
     pub sound : IsTrue (sound_in it) ↔ IsSoundFile letters bytes

@@ -1,27 +1,27 @@
 -- A stream of a package that is written piece by piece, and put into the package by a flush.
 use Rattle.std.specs.Borrow.{GName}
 use Rattle.std.specs.Prelude.{◌≡◌, ℕ, [], IfErr, List, Ok, Result}
-use Rattle.cfb.specs.Views.{letters_in, mini_of}
-use Rattle.cfb_fat.specs.Tables.{HasCauseBelow}
+use Rattle.cfb.specs.Views.{file_case_table, mini_of}
+use Rattle.cfb_fat.specs.Tables.{IsJustifiedBySectors}
 use Rattle.cfb_medium.specs.Memory.{memory_bytes}
 use Rattle.cfb_medium.specs.declared.error.Error.{Error}
 use Rattle.cfb_medium.specs.declared.medium.ReadMedium.{Ghosts}
 use Rattle.cfb_medium.specs.declared.memory.MemoryMedium.{MemoryMedium}
 use Rattle.cfb_mini.specs.Views.{allocator_of}
-use Rattle.cfb_owned.specs.Chains.{GoesOn}
-use Rattle.msi_streams.specs.Writing.{Makes, most_bytes, written_within}
-use Rattle.msi.specs.Changing.{IsChangeError, PackageChanges, PackageFills}
+use Rattle.cfb_chain_io.specs.ChainEffects.{KeepsFileInvariants}
+use Rattle.msi_streams.specs.Writing.{AppliesPackageRule, most_bytes, written_within}
+use Rattle.msi.specs.Changing.{IsChangeError, PackageChanges, FullOnlyWithoutRoom}
 use Rattle.msi.specs.Opened.{file_in}
 use Rattle.msi.specs.declared.package.Package.{Package}
 use Rattle.msi.specs.declared.writer.StreamWriterOver.{StreamWriterOver}
 
 module _ {F : Type 0} {g : Ghosts F} where
   -- what a call leaves that puts a stream of this name with these bytes into a package: what `put_stream` says of it
-  pub record Puts (name content : List ℕ) (result : Result (Unit {0}) Error) (old new : Package F g) : Type 0 where
-    pub changes : PackageChanges (Makes (written_within (letters_in (file_in old)) (most_bytes (file_in old)) name content)) result old new
-    pub full : PackageFills (Makes (written_within (letters_in (file_in old)) (most_bytes (file_in old)) name content)) result old new
-    pub goes_on : GoesOn (allocator_of (mini_of (file_in old))) (allocator_of (mini_of (file_in new)))
-    pub cause : IfErr result (HasCauseBelow (allocator_of (mini_of (file_in old))) (allocator_of (mini_of (file_in new))))
+  pub record ReplacesStream (name content : List ℕ) (result : Result (Unit {0}) Error) (old new : Package F g) : Type 0 where
+    pub changes : PackageChanges (AppliesPackageRule (written_within (file_case_table (file_in old)) (most_bytes (file_in old)) name content)) result old new
+    pub full : FullOnlyWithoutRoom (AppliesPackageRule (written_within (file_case_table (file_in old)) (most_bytes (file_in old)) name content)) result old new
+    pub goes_on : KeepsFileInvariants (allocator_of (mini_of (file_in old))) (allocator_of (mini_of (file_in new)))
+    pub cause : IfErr result (IsJustifiedBySectors (allocator_of (mini_of (file_in old))) (allocator_of (mini_of (file_in new))))
     pub kinds : IfErr result IsChangeError
 
   -- the package into which it writes, and the reference to it
@@ -57,4 +57,4 @@ module _ {F : Type 0} {g : Ghosts F} where
     pub of_name : name_in it ≡ name
     pub nothing : content_in it ≡ []
     pub at_start : place_in it ≡ 0
-    pub puts : Puts name [] (Ok tt) old (package_under it)
+    pub puts : ReplacesStream name [] (Ok tt) old (package_under it)

@@ -1,18 +1,18 @@
 //! Packages that are changed.
 ghost use Rattle.std.specs.Borrow.{sem, RestsIfErr};
 ghost use Rattle.std.specs.Prelude.{◌≡◌, [], Err, IfErr, IfOk, Ok};
-ghost use Rattle.cfb.specs.Views.{letters_in, mini_of};
-ghost use Rattle.cfb_fat.specs.Tables.{HasCauseBelow};
+ghost use Rattle.cfb.specs.Views.{file_case_table, mini_of};
+ghost use Rattle.cfb_fat.specs.Tables.{IsJustifiedBySectors};
 ghost use Rattle.cfb_mini.specs.Views.{allocator_of};
-ghost use Rattle.cfb_owned.specs.Chains.{GoesOn};
-ghost use Rattle.msi.specs.Changing.{failed_in, permission, setting_page, IsChangeError, IsRemovalError, PackageChanges, PackageFills};
+ghost use Rattle.cfb_chain_io.specs.ChainEffects.{KeepsFileInvariants};
+ghost use Rattle.msi.specs.Changing.{failed_in, permission, setting_page, IsChangeError, IsRemovalError, PackageChanges, FullOnlyWithoutRoom};
 ghost use Rattle.msi.specs.Opened.{file_in, sound_in};
-ghost use Rattle.msi.specs.Writers.{lender_of, BeginsWriting, Puts};
+ghost use Rattle.msi.specs.Writers.{lender_of, BeginsWriting, ReplacesStream};
 ghost use Rattle.msi.specs.contracts.package.Package.{the_row};
 ghost use Rattle.msi_changes.specs.Said.{insert_name, insert_rows};
-ghost use Rattle.msi_meaning.specs.Calls.{Inserts};
-ghost use Rattle.msi_meaning.specs.Streams.{stream_removed, unsigned};
-ghost use Rattle.msi_streams.specs.Writing.{most_bytes, written_within, Makes};
+ghost use Rattle.msi_spec.specs.Calls.{Inserts};
+ghost use Rattle.msi_spec.specs.Streams.{stream_removed, unsigned};
+ghost use Rattle.msi_streams.specs.Writing.{most_bytes, written_within, AppliesPackageRule};
 
 use crate::package::Package;
 use crate::writer::StreamWriter;
@@ -53,15 +53,18 @@ impl<F: Medium> Package<F> {
     /// `InvalidInput` where a stream of the file's version has fewer bytes. `Full` where numbers of entries or sectors are missing. The
     /// other errors are faults. After an error nothing is changed, or the package has failed.
     pub fn put_stream(&mut self, name: &str, bytes: &[u8]) -> Result<(), Error>
-        ensures changes { PackageChanges (Makes (written_within (letters_in (file_in self.old))
+        ensures changes { PackageChanges
+            (AppliesPackageRule (written_within (file_case_table (file_in self.old))
             (most_bytes (file_in self.old)) name.now bytes.now)) result self.old self.new }
-        ensures full { PackageFills (Makes (written_within (letters_in (file_in self.old))
+        ensures full_only_if { FullOnlyWithoutRoom
+            (AppliesPackageRule (written_within (file_case_table (file_in self.old))
             (most_bytes (file_in self.old)) name.now bytes.now)) result self.old self.new }
-        ensures goes_on { GoesOn (allocator_of (mini_of (file_in self.old)))
+        ensures invariants { KeepsFileInvariants (allocator_of (mini_of (file_in self.old)))
             (allocator_of (mini_of (file_in self.new))) }
-        ensures cause { IfErr result (HasCauseBelow (allocator_of (mini_of (file_in self.old)))
+        ensures cause { IfErr result
+            (IsJustifiedBySectors (allocator_of (mini_of (file_in self.old)))
             (allocator_of (mini_of (file_in self.new)))) }
-        ensures kinds { IfErr result IsChangeError }
+        ensures errors { IfErr result IsChangeError }
     {
         if let Err(error) = self.may_change() {
             return Err(error);
@@ -76,7 +79,7 @@ impl<F: Medium> Package<F> {
     /// After an error nothing is changed, or the package has failed.
     pub fn write_stream<'a>(&'a mut self, name: &'a str) -> Result<StreamWriter<'a, F>, Error>
         ensures* lends { sem 𝓛 (RestsIfErr (the_row F.row F.ReadMedium) self.entry lender_of result
-            (λ n. IfErr result (λ e. Puts name.entry.now [] (Err e) self.old n))) }
+            (λ n. IfErr result (λ e. ReplacesStream name.entry.now [] (Err e) self.old n))) }
         ensures same_reference { IfOk result (λ w. lender_of w ≡ self.entry.ghost_name) }
         ensures begun { IfOk result (BeginsWriting name.entry.now self.old) }
     {
@@ -91,13 +94,14 @@ impl<F: Medium> Package<F> {
     /// the package has failed.
     pub fn remove_stream(&mut self, name: &str) -> Result<(), Error>
         ensures changes { PackageChanges
-            (Makes (λ P. stream_removed (letters_in (file_in self.old)) P
+            (AppliesPackageRule (λ P. stream_removed (file_case_table (file_in self.old)) P
             name.now)) result self.old self.new }
-        ensures goes_on { GoesOn (allocator_of (mini_of (file_in self.old)))
+        ensures invariants { KeepsFileInvariants (allocator_of (mini_of (file_in self.old)))
             (allocator_of (mini_of (file_in self.new))) }
-        ensures cause { IfErr result (HasCauseBelow (allocator_of (mini_of (file_in self.old)))
+        ensures cause { IfErr result
+            (IsJustifiedBySectors (allocator_of (mini_of (file_in self.old)))
             (allocator_of (mini_of (file_in self.new)))) }
-        ensures kinds { IfErr result IsRemovalError }
+        ensures errors { IfErr result IsRemovalError }
     {
         if let Err(error) = self.may_change() {
             return Err(error);
@@ -109,13 +113,14 @@ impl<F: Medium> Package<F> {
     /// where the package isn't sound. The other errors are faults. After an error nothing is changed, or the package has failed.
     pub fn remove_digital_signature(&mut self) -> Result<(), Error>
         ensures changes { PackageChanges
-            (Makes (λ P. Ok (unsigned (letters_in (file_in self.old)) P)))
+            (AppliesPackageRule (λ P. Ok (unsigned (file_case_table (file_in self.old)) P)))
             result self.old self.new }
-        ensures goes_on { GoesOn (allocator_of (mini_of (file_in self.old)))
+        ensures invariants { KeepsFileInvariants (allocator_of (mini_of (file_in self.old)))
             (allocator_of (mini_of (file_in self.new))) }
-        ensures cause { IfErr result (HasCauseBelow (allocator_of (mini_of (file_in self.old)))
+        ensures cause { IfErr result
+            (IsJustifiedBySectors (allocator_of (mini_of (file_in self.old)))
             (allocator_of (mini_of (file_in self.new)))) }
-        ensures kinds { IfErr result IsRemovalError }
+        ensures errors { IfErr result IsRemovalError }
     {
         if let Err(error) = self.may_change() {
             return Err(error);
@@ -131,17 +136,18 @@ impl<F: Medium> Package<F> {
     pub fn insert_rows(&mut self, query: &Insert) -> Result<(), Error>
         ensures changes { PackageChanges (λ P Q answer. Inserts P (insert_name query.now)
             (insert_rows query.now) Q answer) result self.old self.new }
-        ensures full { PackageFills (λ P Q answer. Inserts P (insert_name query.now)
+        ensures full_only_if { FullOnlyWithoutRoom (λ P Q answer. Inserts P (insert_name query.now)
             (insert_rows query.now) Q answer) result self.old self.new }
-        ensures goes_on { GoesOn (allocator_of (mini_of (file_in self.old)))
+        ensures invariants { KeepsFileInvariants (allocator_of (mini_of (file_in self.old)))
             (allocator_of (mini_of (file_in self.new))) }
-        ensures cause { IfErr result (HasCauseBelow (allocator_of (mini_of (file_in self.old)))
+        ensures cause { IfErr result
+            (IsJustifiedBySectors (allocator_of (mini_of (file_in self.old)))
             (allocator_of (mini_of (file_in self.new)))) }
-        ensures kinds { IfErr result IsChangeError }
+        ensures errors { IfErr result IsChangeError }
     {
         if let Err(error) = self.may_change() {
             return Err(error);
         }
-        msi_edits::insert_rows(self.alloc, &mut self.store, &mut self.pool, query)
+        msi_row_edits::insert_rows(self.alloc, &mut self.store, &mut self.pool, query)
     }
 }

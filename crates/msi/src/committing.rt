@@ -2,10 +2,10 @@
 ghost use Rattle.std.specs.Prelude.{◌≡◌, ◌≤◌, false, true, IfErr, IsTrue, OnOk};
 ghost use Rattle.cfb.specs.Publishing.{medium_in};
 ghost use Rattle.cfb.specs.Views.{mini_of};
-ghost use Rattle.cfb_fat.specs.Tables.{HasCauseBelow};
+ghost use Rattle.cfb_fat.specs.Tables.{IsJustifiedBySectors};
 ghost use Rattle.cfb_mini.specs.Views.{allocator_of};
 ghost use Rattle.msi.specs.Changing.{IsChangeError, SummaryFills};
-ghost use Rattle.msi.specs.Committing.{LeavesOldOrHeld, PackageCommits};
+ghost use Rattle.msi.specs.Committing.{CrashLeavesOldOrHeld, PackageCommits};
 ghost use Rattle.msi.specs.Opened.{file_in, pool_in, written_in};
 ghost use Rattle.msi_stored.specs.Shown.{bytes_in};
 
@@ -22,15 +22,16 @@ impl<F: Medium> Package<F> {
     /// the midst of its commit, which is `Device`.
     pub fn commit(&mut self) -> Result<(), Error>
         ensures commits { PackageCommits F.has_published result self.old self.new }
-        ensures left { IsTrue (F.honest (medium_in (file_in self.old)))
-            → LeavesOldOrHeld self.old self.new }
+        ensures crash { IsTrue (F.honest (medium_in (file_in self.old)))
+            → CrashLeavesOldOrHeld self.old self.new }
         ensures still { (pool_in self.old).modified ≡ false → written_in self.old ≡ true
             → IsTrue (F.honest (medium_in (file_in self.old)))
             → OnOk result (bytes_in (file_in self.new) ≡ bytes_in (file_in self.old)) }
-        ensures full { SummaryFills result self.old self.new }
-        ensures cause { IfErr result (HasCauseBelow (allocator_of (mini_of (file_in self.old)))
+        ensures full_only_if { SummaryFills result self.old self.new }
+        ensures cause { IfErr result
+            (IsJustifiedBySectors (allocator_of (mini_of (file_in self.old)))
             (allocator_of (mini_of (file_in self.new)))) }
-        ensures kinds { IfErr result IsChangeError }
+        ensures errors { IfErr result IsChangeError }
         ensures honest { F.honest (medium_in (file_in self.new))
             ≡ F.honest (medium_in (file_in self.old)) }
         ensures counted { F.failures (medium_in (file_in self.old))

@@ -1,11 +1,11 @@
 //! Packages that are copied to another medium.
 ghost use Rattle.std.specs.Prelude.{◌≡◌, ◌⊎◌, [], IfErr, IsTrue, OnErr};
 ghost use Rattle.cfb.specs.Views.{mini_of};
-ghost use Rattle.cfb_copying.specs.Chains.{IsCopyFault};
-ghost use Rattle.cfb_fat.specs.Tables.{HasCauseBelow};
-ghost use Rattle.cfb_medium.specs.Calls.{Extends, HasCauseSince};
+ghost use Rattle.cfb_copying.specs.Chains.{IsCopyError};
+ghost use Rattle.cfb_fat.specs.Tables.{IsJustifiedBySectors};
+ghost use Rattle.cfb_medium.specs.Calls.{Reaches, IsJustifiedSince};
 ghost use Rattle.cfb_mini.specs.Views.{allocator_of};
-ghost use Rattle.cfb_owned.specs.Chains.{GoesOn};
+ghost use Rattle.cfb_chain_io.specs.ChainEffects.{KeepsFileInvariants};
 ghost use Rattle.msi.specs.Changing.{IsChangeError};
 ghost use Rattle.msi.specs.Copying.{PackageCopies};
 ghost use Rattle.msi.specs.Opened.{file_in};
@@ -24,17 +24,17 @@ impl<F: Medium> Package<F> {
         requires { IsTrue (T.honest target.old) → T.bytes target.old ≡ [] }
         ensures copies { PackageCopies (IsTrue (T.honest target.old)) (T.bytes target.new) result
             self.old self.new }
-        ensures goes_on { GoesOn (allocator_of (mini_of (file_in self.old)))
+        ensures invariants { KeepsFileInvariants (allocator_of (mini_of (file_in self.old)))
             (allocator_of (mini_of (file_in self.new))) }
         ensures unwritten { IsTrue (T.honest target.old)
             → OnErr result (T.bytes target.new ≡ T.bytes target.old) }
         ensures honest { T.honest target.new ≡ T.honest target.old }
-        ensures continues { Extends T.continues target.old target.new }
-        ensures cause { IfErr result (λ e. HasCauseBelow
+        ensures continues { Reaches T.continues target.old target.new }
+        ensures cause { IfErr result (λ e. IsJustifiedBySectors
             (allocator_of (mini_of (file_in self.old)))
-            (allocator_of (mini_of (file_in self.new))) e ⊎ HasCauseSince T.continues T.failures
+            (allocator_of (mini_of (file_in self.new))) e ⊎ IsJustifiedSince T.continues T.failures
             T.failed target.old target.new e) }
-        ensures kinds { IfErr result (λ e. IsChangeError e ⊎ IsCopyFault e) }
+        ensures errors { IfErr result (λ e. IsChangeError e ⊎ IsCopyError e) }
     {
         if self.store.file.has_failed() {
             return Err(Error::Failed);

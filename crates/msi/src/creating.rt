@@ -1,19 +1,19 @@
 //! Packages that are made.
 ghost use Rattle.std.specs.Prelude.{◌≡◌, ◌≤◌, false, length, true, Err, IfErr, IfOk, IsTrue};
-ghost use Rattle.cfb_medium.specs.Calls.{Extends, HasCauseSince};
+ghost use Rattle.cfb_medium.specs.Calls.{Reaches, IsJustifiedSince};
 ghost use Rattle.cfb_medium.specs.declared.error.Error.TheVariants.{InvalidInput};
-ghost use Rattle.cfb_tree.specs.LetterViews.{letters_of};
+ghost use Rattle.cfb_tree.specs.CaseTableViews.{case_table_of};
 ghost use Rattle.msi.specs.Changing.{IsChangeError};
 ghost use Rattle.msi.specs.Creating.{new_file_len, IsCreatedPackage, IsNewRefusal};
 ghost use Rattle.msi.specs.Opened.{kind_in, pool_in, sound_in, store_in, summary_in, written_in};
-ghost use Rattle.msi_meaning.specs.Opening.{may_use};
+ghost use Rattle.msi_spec.specs.Opening.{keeps_encoded_names};
 
 use crate::opening::{FIRST_ENCODED, LAST_ENCODED};
 use crate::package::Package;
 use cfb::{CaseMapper, CompoundFile};
 use cfb_medium::{Error, Medium, ReadMedium};
-use msi_creating::{NewPackage, create_package};
-use msi_meaning::PackageType;
+use msi_new_package::{NewPackage, create_package};
+use msi_spec::PackageType;
 use msi_streams::write_parts;
 use std::alloc::Global;
 
@@ -30,15 +30,15 @@ impl<F: Medium> Package<F> {
         medium: F,
         letters: CaseMapper,
     ) -> Result<Package<F>, (F, Error)>
-        ensures created { IfOk result (IsCreatedPackage (letters_of letters) kind medium) }
-        ensures letters { may_use (letters_of letters) ≡ false
+        ensures created { IfOk result (IsCreatedPackage (case_table_of letters) kind medium) }
+        ensures letters { keeps_encoded_names (case_table_of letters) ≡ false
             → result ≡ Err (medium, InvalidInput) }
-        ensures refused { IsTrue (F.honest medium) → length (F.bytes medium) ≤ new_file_len
-            → IfErr result (λ e. IsNewRefusal (letters_of letters) e.1) }
-        ensures kinds { IfErr result (λ e. IsChangeError e.1) }
+        ensures refused_only_if { IsTrue (F.honest medium) → length (F.bytes medium) ≤ new_file_len
+            → IfErr result (λ e. IsNewRefusal (case_table_of letters) e.1) }
+        ensures errors { IfErr result (λ e. IsChangeError e.1) }
         ensures left { IfErr result (λ e. (F.honest e.0 ≡ F.honest medium)
-            × Extends F.continues medium e.0) }
-        ensures cause { IfErr result (λ e. HasCauseSince F.continues F.failures F.failed medium
+            × Reaches F.continues medium e.0) }
+        ensures cause { IfErr result (λ e. IsJustifiedSince F.continues F.failures F.failed medium
             e.0 e.1) }
     {
         if letters.touches(FIRST_ENCODED, LAST_ENCODED) {

@@ -1,10 +1,10 @@
 //! Packages by the paths of their files.
 ghost use Rattle.std.specs.Prelude.{◌≡◌, ◌⊎◌, IfErr, IfOk};
 ghost use Rattle.cfb.specs.Paths.{IsOpenedOnDisk};
-ghost use Rattle.cfb.specs.Views.{letters_in, mini_of};
+ghost use Rattle.cfb.specs.Views.{file_case_table, mini_of};
 ghost use Rattle.cfb_opening.specs.Opened.{OpensAt};
-ghost use Rattle.cfb_tree.specs.LetterViews.{letters_of};
-ghost use Rattle.file_device.specs.FileDevice.{IsOpenRefusal};
+ghost use Rattle.cfb_tree.specs.CaseTableViews.{case_table_of};
+ghost use Rattle.file_device.specs.FileDevice.{IsDeviceOpenError};
 ghost use Rattle.msi.specs.Changing.{IsChangeError};
 ghost use Rattle.msi.specs.Creating.{IsPackageMadeOnDisk};
 ghost use Rattle.msi.specs.Opened.{file_in};
@@ -13,7 +13,7 @@ ghost use Rattle.msi_stored.specs.Reading.{IsOpeningError};
 use crate::package::Package;
 use cfb::{CaseMapper, FileMedium};
 use cfb_medium::Error;
-use msi_meaning::PackageType;
+use msi_spec::PackageType;
 use std::alloc::Global;
 use std::fs::File;
 use std::rt::Files;
@@ -27,8 +27,8 @@ pub fn open<R: Files<File = File>>(
     letters: CaseMapper,
 ) -> Result<Package<FileMedium>, Error>
     ensures opened { IfOk result (λ it. IsOpenedOnDisk (file_in it)) }
-    ensures letters { IfOk result (λ it. letters_in (file_in it) ≡ letters_of letters) }
-    ensures error { IfErr result (λ e. IsOpenRefusal e ⊎ IsOpeningError e) }
+    ensures letters { IfOk result (λ it. file_case_table (file_in it) ≡ case_table_of letters) }
+    ensures errors { IfErr result (λ e. IsDeviceOpenError e ⊎ IsOpeningError e) }
 {
     match FileMedium::open(rt, path) {
         Ok(read_only) => package_in_medium(alloc, read_only, letters),
@@ -45,8 +45,8 @@ pub fn open_rw<R: Files<File = File>>(
     letters: CaseMapper,
 ) -> Result<Package<FileMedium>, Error>
     ensures opened { IfOk result (λ it. IsOpenedOnDisk (file_in it)) }
-    ensures letters { IfOk result (λ it. letters_in (file_in it) ≡ letters_of letters) }
-    ensures error { IfErr result (λ e. IsOpenRefusal e ⊎ IsOpeningError e) }
+    ensures letters { IfOk result (λ it. file_case_table (file_in it) ≡ case_table_of letters) }
+    ensures errors { IfErr result (λ e. IsDeviceOpenError e ⊎ IsOpeningError e) }
 {
     match FileMedium::open_rw(rt, path) {
         Ok(medium) => package_in_medium(alloc, medium, letters),
@@ -63,8 +63,8 @@ pub fn create<R: Files<File = File>>(
     path: &str,
     letters: CaseMapper,
 ) -> Result<Package<FileMedium>, Error>
-    ensures made { IfOk result (IsPackageMadeOnDisk (letters_of letters) kind) }
-    ensures error { IfErr result (λ e. IsOpenRefusal e ⊎ IsChangeError e) }
+    ensures made { IfOk result (IsPackageMadeOnDisk (case_table_of letters) kind) }
+    ensures errors { IfErr result (λ e. IsDeviceOpenError e ⊎ IsChangeError e) }
 {
     let medium = match FileMedium::create(rt, path) {
         Ok(medium) => medium,
@@ -83,8 +83,8 @@ fn package_in_medium(
     letters: CaseMapper,
 ) -> Result<Package<FileMedium>, Error>
     ensures opens { IfOk result (λ it. OpensAt medium (mini_of (file_in it))) }
-    ensures letters { IfOk result (λ it. letters_in (file_in it) ≡ letters_of letters) }
-    ensures error { IfErr result IsOpeningError }
+    ensures letters { IfOk result (λ it. file_case_table (file_in it) ≡ case_table_of letters) }
+    ensures errors { IfErr result IsOpeningError }
 {
     match Package::open(alloc, medium, letters) {
         Ok(package) => Ok(package),

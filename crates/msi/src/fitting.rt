@@ -1,9 +1,9 @@
 //! Which texts of a package fit their code pages.
 ghost use Rattle.cfb_medium.specs.declared.error.Error.TheVariants.{Memory};
-ghost use Rattle.msi.specs.Changing.{PackageIsFit};
+ghost use Rattle.msi.specs.Changing.{PackageCanBeWritten};
 ghost use Rattle.msi.specs.Fitting.{unfit_text, unfit_texts, unfit_values};
-ghost use Rattle.msi.specs.Opened.{PackageHolds, pool_in, summary_in};
-ghost use Rattle.msi_meaning.specs.Package.{Packed};
+ghost use Rattle.msi.specs.Opened.{PackageHasContent, pool_in, summary_in};
+ghost use Rattle.msi_spec.specs.Package.{PackageContent};
 ghost use Rattle.msi_props.specs.Held.{pair_in, property_in};
 ghost use Rattle.std.specs.Option.{option_to_list};
 ghost use Rattle.std.specs.Prelude.{◌≡◌, ◌↔◌, ◌≤◌, ◌-◌, ◌++◌, IfErr, IfOk, IsTrue, OnOk, length, map, option_map, string_bytes, take};
@@ -19,7 +19,8 @@ impl<F: ReadMedium> Package<F> {
     /// then publishes bytes that hold the package; else a character that its page lacks is written `?`. It takes no memory, and time
     /// for each character of the two.
     pub fn texts_fit(&self) -> bool
-        ensures { (P : Packed) → PackageHolds self.now P → IsTrue result ↔ PackageIsFit P }
+        ensures { (P : PackageContent) → PackageHasContent self.now P → IsTrue result
+            ↔ PackageCanBeWritten P }
     {
         self.pool.is_writable() && self.summary.is_writable()
     }
@@ -29,7 +30,7 @@ impl<F: ReadMedium> Package<F> {
     pub fn unfit_texts(&self, alloc: Global, most: usize) -> Result<Vec<String>, Error>
         ensures texts { IfOk result (λ texts. map string_bytes texts.items
             ≡ take most (unfit_texts (pool_in self.now).pool (summary_in self.now).props)) }
-        ensures kinds { IfErr result (λ e. e ≡ Memory) }
+        ensures errors { IfErr result (λ e. e ≡ Memory) }
     {
         let texts = self.pool.unfit_texts(alloc, most)?;
         let codepage = self.summary.codepage();
@@ -49,7 +50,7 @@ fn with_unfit_values(
     ensures texts { IfOk result (λ all. map string_bytes all.items
         ≡ map string_bytes texts.items
         ++ take (most - length texts.items) (unfit_values codepage (map pair_in values.now))) }
-    ensures kinds { IfErr result (λ e. e ≡ Memory) }
+    ensures errors { IfErr result (λ e. e ≡ Memory) }
 {
     for value in values {
         if texts.len() == most {
@@ -65,7 +66,7 @@ fn push_text(alloc: Global, texts: &mut Vec<String>, text: Option<&str>) -> Resu
     ensures pushed { OnOk result (map string_bytes texts.new.items
         ≡ map string_bytes texts.old.items
         ++ option_to_list (option_map (λ t. t.now) text.entry)) }
-    ensures kinds { IfErr result (λ e. e ≡ Memory) }
+    ensures errors { IfErr result (λ e. e ≡ Memory) }
 {
     if let Some(text) = text {
         texts.push(String::from_str(alloc, text)?)?;

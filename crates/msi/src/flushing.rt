@@ -2,9 +2,9 @@
 ghost use Rattle.std.specs.Prelude.{◌≡◌, ◌&&◌, false, not, true, Err, IfErr, IfOk, IsTrue, Ok, OnOk};
 ghost use Rattle.cfb.specs.Publishing.{medium_in};
 ghost use Rattle.cfb.specs.Views.{mini_of};
-ghost use Rattle.cfb_fat.specs.Tables.{HasCauseBelow};
+ghost use Rattle.cfb_fat.specs.Tables.{IsJustifiedBySectors};
 ghost use Rattle.cfb_mini.specs.Views.{allocator_of};
-ghost use Rattle.cfb_owned.specs.Chains.{GoesOn};
+ghost use Rattle.cfb_chain_io.specs.ChainEffects.{KeepsFileInvariants};
 ghost use Rattle.msi.specs.Changing.{failed_in, IsChangeError, PackageWrites, SummaryFills};
 ghost use Rattle.msi.specs.Copying.{GivesMedium};
 ghost use Rattle.msi.specs.Opened.{file_in, pool_in, written_in};
@@ -24,16 +24,17 @@ impl<F: Medium> Package<F> {
     /// change the bytes stay.
     pub fn flush(&mut self) -> Result<(), Error>
         ensures writes { PackageWrites result self.old self.new }
-        ensures live { OnOk result (failed_in self.new ≡ false) }
+        ensures not_failed { OnOk result (failed_in self.new ≡ false) }
         ensures still { (pool_in self.old).modified ≡ false → written_in self.old ≡ true
             → IsTrue (F.honest (medium_in (file_in self.old)))
             → bytes_in (file_in self.new) ≡ bytes_in (file_in self.old) }
-        ensures full { SummaryFills result self.old self.new }
-        ensures goes_on { GoesOn (allocator_of (mini_of (file_in self.old)))
+        ensures full_only_if { SummaryFills result self.old self.new }
+        ensures invariants { KeepsFileInvariants (allocator_of (mini_of (file_in self.old)))
             (allocator_of (mini_of (file_in self.new))) }
-        ensures cause { IfErr result (HasCauseBelow (allocator_of (mini_of (file_in self.old)))
+        ensures cause { IfErr result
+            (IsJustifiedBySectors (allocator_of (mini_of (file_in self.old)))
             (allocator_of (mini_of (file_in self.new)))) }
-        ensures kinds { IfErr result IsChangeError }
+        ensures errors { IfErr result IsChangeError }
     {
         if self.store.file.has_failed() {
             return Err(Error::Failed);
@@ -50,8 +51,8 @@ impl<F: Medium> Package<F> {
     /// The medium, once the package was flushed. Where that is refused, as `flush` is, the medium comes back as it is then.
     pub fn into_inner(mut self) -> Result<F, (F, Error)>
         ensures ok { IfOk result (GivesMedium (Ok tt) self) }
-        ensures err { IfErr result (λ e. GivesMedium (Err e.1) self e.0) }
-        ensures kinds { IfErr result (λ e. IsChangeError e.1) }
+        ensures after_error { IfErr result (λ e. GivesMedium (Err e.1) self e.0) }
+        ensures errors { IfErr result (λ e. IsChangeError e.1) }
     {
         match self.flush() {
             Ok(()) => Ok(self.into_medium()),
@@ -69,12 +70,13 @@ impl<F: Medium> Package<F> {
     // Writes both, also where they are in their streams, and flushes the file.
     pub(crate) fn write_memory(&mut self) -> Result<(), Error>
         ensures saves { SavesMemory result self.old self.new }
-        ensures full { SummaryFills result self.old self.new }
-        ensures goes_on { GoesOn (allocator_of (mini_of (file_in self.old)))
+        ensures full_only_if { SummaryFills result self.old self.new }
+        ensures invariants { KeepsFileInvariants (allocator_of (mini_of (file_in self.old)))
             (allocator_of (mini_of (file_in self.new))) }
-        ensures cause { IfErr result (HasCauseBelow (allocator_of (mini_of (file_in self.old)))
+        ensures cause { IfErr result
+            (IsJustifiedBySectors (allocator_of (mini_of (file_in self.old)))
             (allocator_of (mini_of (file_in self.new)))) }
-        ensures kinds { IfErr result IsChangeError }
+        ensures errors { IfErr result IsChangeError }
     {
         if let Err(error) = write_parts(
             self.alloc,

@@ -1,11 +1,11 @@
 //! Laws of packages, each the contract of a function that does nothing.
 ghost use Rattle.std.specs.Prelude.{◌≡◌, ℕ, IsTrue, List};
 ghost use Rattle.cfb_medium.specs.declared.error.Error.{Error};
-ghost use Rattle.cfb_tree.specs.Names.{Letters};
-ghost use Rattle.msi.specs.Committing.{HoldsSound};
+ghost use Rattle.cfb_tree.specs.Names.{CaseTable};
+ghost use Rattle.msi.specs.Committing.{BytesHoldPackage};
 ghost use Rattle.msi.specs.Lending.{summed_up, with_summary};
-ghost use Rattle.msi.specs.Opened.{sound_in, summary_in, IsOpenedPackage, IsRefused, IsSoundFile, PackageHolds};
-ghost use Rattle.msi_meaning.specs.Package.{MeansPackage, Packed};
+ghost use Rattle.msi.specs.Opened.{sound_in, summary_in, IsOpenedPackage, AreBytesRejected, IsSoundFile, PackageHasContent};
+ghost use Rattle.msi_spec.specs.Package.{MeansPackage, PackageContent};
 ghost use Rattle.msi_props.specs.Held.{SetState};
 
 use crate::package::Package;
@@ -14,22 +14,25 @@ use cfb_medium::ReadMedium;
 /// Bytes that a commit published of a package mean this package and no other, and are a sound file. Opening them is refused by no rule;
 /// and what is opened over them, under the same letter table, holds this very package, and is sound: it may be changed again.
 pub fn committed_packages_open_again<F: ReadMedium>()
-    ensures meant { (letters : Letters) (bytes : List ℕ) (P : Packed) → HoldsSound letters bytes P
+    ensures meant { (letters : CaseTable) (bytes : List ℕ) (P : PackageContent)
+        → BytesHoldPackage letters bytes P
         → MeansPackage letters bytes P × IsSoundFile letters bytes }
-    ensures one { (letters : Letters) (bytes : List ℕ) (P Q : Packed) → HoldsSound letters bytes P
-        → HoldsSound letters bytes Q → P ≡ Q }
-    ensures accepted { (letters : Letters) (bytes : List ℕ) (P : Packed) (e : Error)
-        → HoldsSound letters bytes P → IsRefused letters bytes e → ⊥ }
-    ensures opened { (letters : Letters) (bytes : List ℕ) (P : Packed)
-        (it : Package F F.ReadMedium) → HoldsSound letters bytes P
-        → IsOpenedPackage letters bytes it → PackageHolds it P × IsTrue (sound_in it) }
+    ensures one { (letters : CaseTable) (bytes : List ℕ) (P Q : PackageContent)
+        → BytesHoldPackage letters bytes P
+        → BytesHoldPackage letters bytes Q → P ≡ Q }
+    ensures accepted { (letters : CaseTable) (bytes : List ℕ) (P : PackageContent) (e : Error)
+        → BytesHoldPackage letters bytes P → AreBytesRejected letters bytes e → ⊥ }
+    ensures opened { (letters : CaseTable) (bytes : List ℕ) (P : PackageContent)
+        (it : Package F F.ReadMedium) → BytesHoldPackage letters bytes P
+        → IsOpenedPackage letters bytes it → PackageHasContent it P × IsTrue (sound_in it) }
 {}
 
 /// A package whose summary was lent holds what it held, with the summary that was made of it, where that has one section; a sound one
 /// had such a summary, and no setter changes how many it has.
 pub fn changed_summaries_are_held<F: ReadMedium>()
-    ensures held { (it : Package F F.ReadMedium) (P : Packed) (s : SetState) → PackageHolds it P
-        → s.props.sections ≡ 1 → PackageHolds (with_summary it s) (summed_up s.props P) }
-    ensures one { (it : Package F F.ReadMedium) (P : Packed) → PackageHolds it P
+    ensures held { (it : Package F F.ReadMedium) (P : PackageContent) (s : SetState)
+        → PackageHasContent it P
+        → s.props.sections ≡ 1 → PackageHasContent (with_summary it s) (summed_up s.props P) }
+    ensures one { (it : Package F F.ReadMedium) (P : PackageContent) → PackageHasContent it P
         → IsTrue (sound_in it) → (summary_in it).props.sections ≡ 1 }
 {}

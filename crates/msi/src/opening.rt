@@ -1,27 +1,27 @@
 //! Packages that are opened.
 ghost use Rattle.std.specs.Prelude.{◌≡◌, ◌⊎◌, ◌↔◌, false, true, IfErr, IfOk, IsTrue};
-ghost use Rattle.cfb.specs.Streams.{FileHolds};
-ghost use Rattle.cfb.specs.Views.{letters_in, mini_of, sound_of, FileRests};
-ghost use Rattle.cfb_fat.specs.Tables.{HasCauseBelow};
-ghost use Rattle.cfb_medium.specs.Calls.{HasCauseSince, IsFaultUnless};
+ghost use Rattle.cfb.specs.Streams.{FileHoldsTree};
+ghost use Rattle.cfb.specs.Views.{file_case_table, mini_of, sound_of, OnlyReadsFile};
+ghost use Rattle.cfb_fat.specs.Tables.{IsJustifiedBySectors};
+ghost use Rattle.cfb_medium.specs.Calls.{IsJustifiedSince, IsFaultOrInvalidInputIf};
 ghost use Rattle.cfb_mini.specs.Views.{allocator_of};
 ghost use Rattle.cfb_opening.specs.Opened.{OpensAt};
-ghost use Rattle.cfb_opening.specs.Tables.{OnlyReads};
-ghost use Rattle.cfb_tree.specs.LetterViews.{letters_of};
+ghost use Rattle.cfb_opening.specs.Tables.{OnlyReadsMedium};
+ghost use Rattle.cfb_tree.specs.CaseTableViews.{case_table_of};
 ghost use Rattle.cfb_tree.specs.Tree.{Tree};
-ghost use Rattle.msi.specs.Opened.{file_in, kind_in, pool_in, sound_in, summary_in, tables_in, IsOpenedPackage, IsRefused};
-ghost use Rattle.msi.specs.Steps.{IsFound, IsGivenUp};
-ghost use Rattle.msi_meaning.specs.Opening.{may_use, opened};
-ghost use Rattle.msi_parts.specs.Held.{headings_in, AreHeld};
+ghost use Rattle.msi.specs.Opened.{file_in, kind_in, pool_in, sound_in, summary_in, tables_in, IsOpenedPackage, AreBytesRejected};
+ghost use Rattle.msi.specs.Steps.{IsPackageOfFile, MediumGivenBack};
+ghost use Rattle.msi_spec.specs.Opening.{keeps_encoded_names, opened};
+ghost use Rattle.msi_parts.specs.Held.{headings_in, ArePartsOfTree};
 ghost use Rattle.msi_parts.specs.Parts.{IsSoundIn};
 ghost use Rattle.msi_stored.specs.Reading.{IsOpeningError};
-ghost use Rattle.msi_stored.specs.Shown.{bytes_in, FindsPart, HoldsShown};
+ghost use Rattle.msi_stored.specs.Shown.{bytes_in, FindsPart, StoreShowsTree};
 
 use crate::package::Package;
 use cfb::{CaseMapper, CompoundFile};
 use cfb_medium::{Error, ReadMedium};
-use msi_judge::is_sound_package;
 use msi_parts::PackageParts;
+use msi_soundness::is_sound_package;
 use msi_store::{Store, read_parts};
 use std::alloc::Global;
 
@@ -39,15 +39,16 @@ impl<F: ReadMedium> Package<F> {
     /// is only read, and a refusal gives it back.
     pub fn open(alloc: Global, medium: F, letters: CaseMapper) -> Result<Package<F>, (F, Error)>
         ensures opens { IfOk result (λ it. OpensAt medium (mini_of (file_in it))) }
-        ensures letters { IfOk result (λ it. letters_in (file_in it) ≡ letters_of letters) }
+        ensures letters { IfOk result (λ it. file_case_table (file_in it) ≡ case_table_of letters) }
         ensures opened { IfOk result (λ it. IsTrue (F.honest medium)
-            → IsOpenedPackage (letters_of letters) (F.bytes medium) it) }
-        ensures refused { IfErr result (λ e. IsTrue (F.honest medium) → IsFaultUnless ⊥ e.1
-            ⊎ IsRefused (letters_of letters) (F.bytes medium) e.1) }
-        ensures kinds { IfErr result (λ e. IsOpeningError e.1) }
-        ensures cause { IfErr result (λ e. HasCauseSince F.continues F.failures F.failed medium
+            → IsOpenedPackage (case_table_of letters) (F.bytes medium) it) }
+        ensures refused_only_if { IfErr result
+            (λ e. IsTrue (F.honest medium) → IsFaultOrInvalidInputIf ⊥ e.1
+            ⊎ AreBytesRejected (case_table_of letters) (F.bytes medium) e.1) }
+        ensures errors { IfErr result (λ e. IsOpeningError e.1) }
+        ensures cause { IfErr result (λ e. IsJustifiedSince F.continues F.failures F.failed medium
             e.0 e.1) }
-        ensures left { IfErr result (λ e. OnlyReads F.honest F.bytes F.continues medium e.0) }
+        ensures left { IfErr result (λ e. OnlyReadsMedium F.honest F.bytes F.continues medium e.0) }
     {
         if letters.touches(FIRST_ENCODED, LAST_ENCODED) {
             return Err((medium, Error::InvalidInput));
@@ -64,9 +65,9 @@ fn opened_package<F: ReadMedium>(
     alloc: Global,
     mut file: CompoundFile<F>,
 ) -> Result<Package<F>, (F, Error)>
-    ensures ok { IfOk result (IsFound file) }
-    ensures err { IfErr result (λ e. IsGivenUp file e.0 e.1) }
-    ensures kinds { IfErr result (λ e. IsOpeningError e.1) }
+    ensures ok { IfOk result (IsPackageOfFile file) }
+    ensures after_error { IfErr result (λ e. MediumGivenBack file e.0 e.1) }
+    ensures errors { IfErr result (λ e. IsOpeningError e.1) }
 {
     match judged_parts(alloc, &mut file) {
         Ok((parts, is_sound)) => Ok(from_parts(alloc, file, parts, is_sound)),
@@ -79,18 +80,21 @@ pub(crate) fn judged_parts<F: ReadMedium>(
     alloc: Global,
     file: &mut CompoundFile<F>,
 ) -> Result<(PackageParts, bool), Error>
-    ensures shown { (tree : Tree) → HoldsShown file.old tree → may_use (letters_in file.old) ≡ true
-        → FindsPart (letters_in file.old) (bytes_in file.old)
-        (λ found. AreHeld (letters_in file.old) tree found.0) (opened (letters_in file.old) tree)
+    ensures shown { (tree : Tree) → StoreShowsTree file.old tree
+        → keeps_encoded_names (file_case_table file.old) ≡ true
+        → FindsPart (file_case_table file.old) (bytes_in file.old)
+        (λ found. ArePartsOfTree (file_case_table file.old) tree found.0)
+        (opened (file_case_table file.old) tree)
         result }
-    ensures judged { (tree : Tree) → FileHolds file.old tree → may_use (letters_in file.old) ≡ true
+    ensures judged { (tree : Tree) → FileHoldsTree file.old tree
+        → keeps_encoded_names (file_case_table file.old) ≡ true
         → IfOk result (λ found. IsTrue found.1
-        ↔ IsSoundIn (letters_in file.old) tree (sound_of file.old)) }
+        ↔ IsSoundIn (file_case_table file.old) tree (sound_of file.old)) }
     ensures unsound { IfOk result (λ found. sound_of file.old ≡ false → found.1 ≡ false) }
-    ensures rests { FileRests file.old file.new }
-    ensures cause { IfErr result (HasCauseBelow (allocator_of (mini_of file.old))
+    ensures only_reads { OnlyReadsFile file.old file.new }
+    ensures cause { IfErr result (IsJustifiedBySectors (allocator_of (mini_of file.old))
         (allocator_of (mini_of file.new))) }
-    ensures kinds { IfErr result IsOpeningError }
+    ensures errors { IfErr result IsOpeningError }
 {
     match read_parts(alloc, file) {
         Ok(parts) => parts_and_soundness(alloc, file, parts),
@@ -105,14 +109,16 @@ fn parts_and_soundness<F: ReadMedium>(
     parts: PackageParts,
 ) -> Result<(PackageParts, bool), Error>
     ensures parts { IfOk result (λ found. found.0 ≡ parts) }
-    ensures judged { (tree : Tree) → FileHolds file.old tree → may_use (letters_in file.old) ≡ true
-        → AreHeld (letters_in file.old) tree parts → IfOk result (λ found. IsTrue found.1
-        ↔ IsSoundIn (letters_in file.old) tree (sound_of file.old)) }
+    ensures judged { (tree : Tree) → FileHoldsTree file.old tree
+        → keeps_encoded_names (file_case_table file.old) ≡ true
+        → ArePartsOfTree (file_case_table file.old) tree parts
+        → IfOk result (λ found. IsTrue found.1
+        ↔ IsSoundIn (file_case_table file.old) tree (sound_of file.old)) }
     ensures unsound { IfOk result (λ found. sound_of file.old ≡ false → found.1 ≡ false) }
-    ensures rests { FileRests file.old file.new }
-    ensures cause { IfErr result (HasCauseBelow (allocator_of (mini_of file.old))
+    ensures only_reads { OnlyReadsFile file.old file.new }
+    ensures cause { IfErr result (IsJustifiedBySectors (allocator_of (mini_of file.old))
         (allocator_of (mini_of file.new))) }
-    ensures fault { IfErr result (IsFaultUnless ⊥) }
+    ensures errors { IfErr result (IsFaultOrInvalidInputIf ⊥) }
 {
     match is_sound_package(alloc, file, &parts) {
         Ok(is_sound) => Ok((parts, is_sound)),

@@ -1,18 +1,18 @@
 //! Packages, and what is told of them.
 ghost use Rattle.std.specs.Prelude.{◌≡◌, map, option_map, string_bytes, Err, IfErr, IfOk, IsErrOf, MatchResult};
 ghost use Rattle.std.specs.Option.{is_some};
-ghost use Rattle.cfb.specs.Views.{letters_in, mini_of};
-ghost use Rattle.cfb_fat.specs.Tables.{has_failed, medium_of, HasCauseBelow};
-ghost use Rattle.cfb_medium.specs.Calls.{IsFaultUnless};
+ghost use Rattle.cfb.specs.Views.{file_case_table, mini_of};
+ghost use Rattle.cfb_fat.specs.Tables.{has_failed, medium_of, IsJustifiedBySectors};
+ghost use Rattle.cfb_medium.specs.Calls.{IsFaultOrInvalidInputIf};
 ghost use Rattle.cfb_medium.specs.declared.error.Error.TheVariants.{InvalidInput, Memory};
 ghost use Rattle.cfb_mini.specs.Views.{allocator_of};
 ghost use Rattle.msi.specs.Lists.{streams_left, tables_left};
-ghost use Rattle.msi.specs.Opened.{file_in, kind_in, pool_in, sound_in, summary_in, tables_in, PackageHolds, PackageRests};
-ghost use Rattle.msi_meaning.specs.Calls.{table_names};
-ghost use Rattle.msi_meaning.specs.Package.{Packed};
-ghost use Rattle.msi_meaning.specs.Streams.{has_stream, is_signed, may_name, stream_names, stream_read};
+ghost use Rattle.msi.specs.Opened.{file_in, kind_in, pool_in, sound_in, summary_in, tables_in, PackageHasContent, OnlyReadsPackage};
+ghost use Rattle.msi_spec.specs.Calls.{table_names};
+ghost use Rattle.msi_spec.specs.Package.{PackageContent};
+ghost use Rattle.msi_spec.specs.Streams.{has_stream, is_signed, may_name, stream_names, stream_read};
 ghost use Rattle.msi_parts.specs.Judged.{heading_named};
-ghost use Rattle.msi_stored.specs.Reading.{TellsOrFault};
+ghost use Rattle.msi_stored.specs.Reading.{ReturnsOrFault};
 ghost use Rattle.msi_tables.specs.Held.{heading_of};
 
 use crate::reader::StreamReader;
@@ -20,9 +20,9 @@ use crate::reading;
 use crate::streams::Streams;
 use crate::tables::Tables;
 use cfb_medium::{Error, Medium, ReadMedium};
-use msi_meaning::PackageType;
 use msi_parts::table_named;
 use msi_pool::StringPool;
+use msi_spec::PackageType;
 use msi_store::Store;
 use msi_summary::SummaryInfo;
 use msi_tables::Table;
@@ -106,11 +106,11 @@ impl<F: ReadMedium> Package<F> {
 
     /// The names of all tables, by their bytes; `_Tables` and `_Columns` are among them. The one error is `Memory`.
     pub fn tables(&self) -> Result<Tables, Error>
-        ensures held { (P : Packed) → PackageHolds self.now P → IfOk result (λ it.
+        ensures held { (P : PackageContent) → PackageHasContent self.now P → IfOk result (λ it.
             map string_bytes (tables_left it) ≡ table_names P) }
         ensures names { IfOk result (λ it. map string_bytes (tables_left it)
             ≡ map (λ h. h.name) (tables_in self.now)) }
-        ensures err { IfErr result (λ e. e ≡ Memory) }
+        ensures errors { IfErr result (λ e. e ≡ Memory) }
     {
         Tables::new(self.alloc, &self.store.tables)
     }
@@ -118,10 +118,13 @@ impl<F: ReadMedium> Package<F> {
     /// The names of the streams that belong to no table and are neither a summary nor a signature, in the container's order. Errors
     /// are faults, where a package is held. The package is only looked at.
     pub fn streams(&self) -> Result<Streams, Error>
-        ensures told { (P : Packed) → PackageHolds self.now P → MatchResult result (λ it.
-            map string_bytes (streams_left it) ≡ stream_names (letters_in (file_in self.now)) P)
-            (IsFaultUnless ⊥) }
-        ensures cause { IfErr result (HasCauseBelow (allocator_of (mini_of (file_in self.now)))
+        ensures answer { (P : PackageContent) → PackageHasContent self.now P
+            → MatchResult result (λ it.
+            map string_bytes (streams_left it) ≡ stream_names
+            (file_case_table (file_in self.now)) P)
+            (IsFaultOrInvalidInputIf ⊥) }
+        ensures cause { IfErr result
+            (IsJustifiedBySectors (allocator_of (mini_of (file_in self.now)))
             (allocator_of (mini_of (file_in self.now)))) }
     {
         Streams::new(self.alloc, &self.store.file)
@@ -129,8 +132,8 @@ impl<F: ReadMedium> Package<F> {
 
     /// Whether there is a stream of this name; none of a name that reading refuses. It takes no memory.
     pub fn has_stream(&self, name: &str) -> bool
-        ensures { (P : Packed) → PackageHolds self.now P
-            → result ≡ has_stream (letters_in (file_in self.now)) P name.now }
+        ensures { (P : PackageContent) → PackageHasContent self.now P
+            → result ≡ has_stream (file_case_table (file_in self.now)) P name.now }
     {
         reading::has_stream(&self.store.file, name)
     }
@@ -138,12 +141,15 @@ impl<F: ReadMedium> Package<F> {
     /// A stream that belongs to no table, at its first byte. `InvalidInput` where no stream can have the name, `NotFound` where none
     /// has. Other errors are faults, where a package is held. The package is only read.
     pub fn read_stream(&mut self, name: &str) -> Result<StreamReader, Error>
-        ensures told { (P : Packed) → PackageHolds self.old P → TellsOrFault (λ it. it.bytes)
-            (stream_read (letters_in (file_in self.old)) P name.now) result }
-        ensures refused { may_name (letters_in (file_in self.old)) name.now ≡ Err InvalidInput
+        ensures answer { (P : PackageContent) → PackageHasContent self.old P
+            → ReturnsOrFault (λ it. it.bytes)
+            (stream_read (file_case_table (file_in self.old)) P name.now) result }
+        ensures refused_only_if { may_name (file_case_table (file_in self.old)) name.now
+            ≡ Err InvalidInput
             → IsErrOf result InvalidInput }
-        ensures rests { PackageRests self.old self.new }
-        ensures cause { IfErr result (HasCauseBelow (allocator_of (mini_of (file_in self.old)))
+        ensures only_reads { OnlyReadsPackage self.old self.new }
+        ensures cause { IfErr result
+            (IsJustifiedBySectors (allocator_of (mini_of (file_in self.old)))
             (allocator_of (mini_of (file_in self.new)))) }
     {
         reading::read_stream(&mut self.store.file, name)
@@ -151,8 +157,8 @@ impl<F: ReadMedium> Package<F> {
 
     /// Whether there is a digital signature. It takes no memory.
     pub fn has_digital_signature(&self) -> bool
-        ensures { (P : Packed) → PackageHolds self.now P
-            → result ≡ is_signed (letters_in (file_in self.now)) P }
+        ensures { (P : PackageContent) → PackageHasContent self.now P
+            → result ≡ is_signed (file_case_table (file_in self.now)) P }
     {
         reading::has_digital_signature(&self.store.file)
     }

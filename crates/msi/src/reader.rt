@@ -86,7 +86,7 @@ impl StreamReader {
     pub fn seek(&mut self, from: SeekFrom) -> Result<u64, Error>
         ensures ok { IfOk result (λ n. Finds from (length self.old.bytes) self.old.position n
             × (self.new.position ≡ n)) }
-        ensures error { IfErr result (λ e. (e ≡ InvalidInput) × ((n : ℕ)
+        ensures errors { IfErr result (λ e. (e ≡ InvalidInput) × ((n : ℕ)
             → Finds from (length self.old.bytes) self.old.position n → ⊥)) }
         ensures unmoved { OnErr result (self.new.position ≡ self.old.position) }
         ensures bytes { self.new.bytes ≡ self.old.bytes }

@@ -1,17 +1,17 @@
 //! Streams of a package's file by their names.
 ghost use Rattle.std.specs.Prelude.{◌≡◌, ◌⊎◌, true, Err, IfErr, IfOk, IsErrOf};
-ghost use Rattle.cfb.specs.Streams.{FileHolds};
-ghost use Rattle.cfb.specs.Views.{letters_in, mini_of, FileRests};
-ghost use Rattle.cfb_fat.specs.Tables.{HasCauseBelow};
-ghost use Rattle.cfb_medium.specs.Calls.{IsFaultUnless};
+ghost use Rattle.cfb.specs.Streams.{FileHoldsTree};
+ghost use Rattle.cfb.specs.Views.{file_case_table, mini_of, OnlyReadsFile};
+ghost use Rattle.cfb_fat.specs.Tables.{IsJustifiedBySectors};
+ghost use Rattle.cfb_medium.specs.Calls.{IsFaultOrInvalidInputIf};
 ghost use Rattle.cfb_medium.specs.declared.error.Error.TheVariants.{InvalidData, InvalidInput, NotFound};
 ghost use Rattle.cfb_mini.specs.Views.{allocator_of};
 ghost use Rattle.cfb_tree.specs.Tree.{Tree};
-ghost use Rattle.msi_meaning.specs.Opening.{may_use};
-ghost use Rattle.msi_meaning.specs.Package.{Packed};
-ghost use Rattle.msi_meaning.specs.Split.{Stores};
-ghost use Rattle.msi_meaning.specs.Streams.{has_stream, is_signed, may_name, stream_read};
-ghost use Rattle.msi_stored.specs.Reading.{TellsOrFault};
+ghost use Rattle.msi_spec.specs.Opening.{keeps_encoded_names};
+ghost use Rattle.msi_spec.specs.Package.{PackageContent};
+ghost use Rattle.msi_spec.specs.Split.{TreeStoresRest};
+ghost use Rattle.msi_spec.specs.Streams.{has_stream, is_signed, may_name, stream_read};
+ghost use Rattle.msi_stored.specs.Reading.{ReturnsOrFault};
 
 use crate::reader::StreamReader;
 use cfb::CompoundFile;
@@ -22,9 +22,10 @@ use msi_texts::{DIGITAL_SIGNATURE_STREAM_NAME, SUMMARY_INFO_STREAM_NAME};
 
 /// Whether there is a stream of this name; none where reading refuses the name. It takes no memory.
 pub(crate) fn has_stream<F: ReadMedium>(file: &CompoundFile<F>, name: &str) -> bool
-    ensures { (tree : Tree) → FileHolds file.now tree → (P : Packed)
-        → Stores (letters_in file.now) tree P → may_use (letters_in file.now) ≡ true
-        → result ≡ has_stream (letters_in file.now) P name.now }
+    ensures { (tree : Tree) → FileHoldsTree file.now tree → (P : PackageContent)
+        → TreeStoresRest (file_case_table file.now) tree P
+        → keeps_encoded_names (file_case_table file.now) ≡ true
+        → result ≡ has_stream (file_case_table file.now) P name.now }
 {
     match encoded_stream_name(file.letters(), name) {
         Ok(path) => file.is_stream(path.as_str()),
@@ -38,16 +39,18 @@ pub(crate) fn read_stream<F: ReadMedium>(
     file: &mut CompoundFile<F>,
     name: &str,
 ) -> Result<StreamReader, Error>
-    ensures told { (tree : Tree) → FileHolds file.old tree → (P : Packed)
-        → Stores (letters_in file.old) tree P → may_use (letters_in file.old) ≡ true
-        → TellsOrFault (λ it. it.bytes) (stream_read (letters_in file.old) P name.now) result }
+    ensures answer { (tree : Tree) → FileHoldsTree file.old tree → (P : PackageContent)
+        → TreeStoresRest (file_case_table file.old) tree P
+        → keeps_encoded_names (file_case_table file.old) ≡ true
+        → ReturnsOrFault (λ it. it.bytes)
+        (stream_read (file_case_table file.old) P name.now) result }
     ensures at_start { IfOk result (λ it. it.position ≡ 0) }
-    ensures refused { may_name (letters_in file.old) name.now ≡ Err InvalidInput
+    ensures refused_only_if { may_name (file_case_table file.old) name.now ≡ Err InvalidInput
         → IsErrOf result InvalidInput }
-    ensures rests { FileRests file.old file.new }
-    ensures cause { IfErr result (HasCauseBelow (allocator_of (mini_of file.old))
+    ensures only_reads { OnlyReadsFile file.old file.new }
+    ensures cause { IfErr result (IsJustifiedBySectors (allocator_of (mini_of file.old))
         (allocator_of (mini_of file.new))) }
-    ensures error { IfErr result (λ e. IsFaultUnless ⊥ e ⊎ (e ≡ InvalidData)
+    ensures errors { IfErr result (λ e. IsFaultOrInvalidInputIf ⊥ e ⊎ (e ≡ InvalidData)
         ⊎ (e ≡ InvalidInput) ⊎ (e ≡ NotFound)) }
 {
     let path = match encoded_stream_name(file.letters(), name) {
@@ -63,9 +66,10 @@ pub(crate) fn read_stream<F: ReadMedium>(
 
 /// Whether there is a digital signature. A letter table under which its name is the summary's leaves it none. It takes no memory.
 pub(crate) fn has_digital_signature<F: ReadMedium>(file: &CompoundFile<F>) -> bool
-    ensures { (tree : Tree) → FileHolds file.now tree → (P : Packed)
-        → Stores (letters_in file.now) tree P → may_use (letters_in file.now) ≡ true
-        → result ≡ is_signed (letters_in file.now) P }
+    ensures { (tree : Tree) → FileHoldsTree file.now tree → (P : PackageContent)
+        → TreeStoresRest (file_case_table file.now) tree P
+        → keeps_encoded_names (file_case_table file.now) ≡ true
+        → result ≡ is_signed (file_case_table file.now) P }
 {
     if is_same_name(
         file.letters(),

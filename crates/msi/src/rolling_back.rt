@@ -2,11 +2,11 @@
 ghost use Rattle.std.specs.Prelude.{◌≡◌, ◌⊎◌, false, true, IfErr, OnErr, OnOk};
 ghost use Rattle.cfb.specs.Publishing.{medium_in};
 ghost use Rattle.cfb.specs.RollingBack.{HasLostAll};
-ghost use Rattle.cfb.specs.Views.{letters_in};
-ghost use Rattle.cfb_medium.specs.Calls.{Extends, HasCauseSince, IsFaultUnless};
-ghost use Rattle.msi.specs.Opened.{file_in, kind_in, pool_in, sound_in, summary_in, tables_in, PackageRests};
-ghost use Rattle.msi.specs.RollingBack.{GoesBack, IsNoWayBack};
-ghost use Rattle.msi.specs.Steps.{IsFound, IsGivenUp};
+ghost use Rattle.cfb.specs.Views.{file_case_table};
+ghost use Rattle.cfb_medium.specs.Calls.{Reaches, IsJustifiedSince, IsFaultOrInvalidInputIf};
+ghost use Rattle.msi.specs.Opened.{file_in, kind_in, pool_in, sound_in, summary_in, tables_in, OnlyReadsPackage};
+ghost use Rattle.msi.specs.RollingBack.{PackageRollsBack, IsNoWayBack};
+ghost use Rattle.msi.specs.Steps.{IsPackageOfFile, MediumGivenBack};
 ghost use Rattle.msi_parts.specs.Held.{headings_in};
 ghost use Rattle.msi_stored.specs.Reading.{IsOpeningError};
 
@@ -24,20 +24,20 @@ impl<F: Medium> Package<F> {
     /// them. After an error all is as it was, or the package has failed, and may be taken back again. Nothing is written, and nothing is
     /// published.
     pub fn roll_back(&mut self) -> Result<(), Error>
-        ensures back { OnOk result (GoesBack F.has_published self.old self.new) }
-        ensures left { OnErr result (PackageRests self.old self.new
+        ensures back { OnOk result (PackageRollsBack F.has_published self.old self.new) }
+        ensures left { OnErr result (OnlyReadsPackage self.old self.new
             ⊎ HasLostAll F.has_published (file_in self.old) (file_in self.new)) }
-        ensures refused { IfErr result (IsNoWayBack F.has_published self.old
+        ensures refused_only_if { IfErr result (IsNoWayBack F.has_published self.old
             (F.survives ≡ false)) }
-        ensures kinds { IfErr result (λ e. IsFaultUnless (F.survives ≡ false) e
+        ensures errors { IfErr result (λ e. IsFaultOrInvalidInputIf (F.survives ≡ false) e
             ⊎ IsOpeningError e) }
-        ensures letters { letters_in (file_in self.new) ≡ letters_in (file_in self.old) }
+        ensures letters { file_case_table (file_in self.new) ≡ file_case_table (file_in self.old) }
         ensures sound { sound_in self.new ≡ sound_in self.old }
         ensures honest { F.honest (medium_in (file_in self.new))
             ≡ F.honest (medium_in (file_in self.old)) }
-        ensures continues { Extends F.continues (medium_in (file_in self.old))
+        ensures continues { Reaches F.continues (medium_in (file_in self.old))
             (medium_in (file_in self.new)) }
-        ensures cause { IfErr result (HasCauseSince F.continues F.failures F.failed
+        ensures cause { IfErr result (IsJustifiedSince F.continues F.failures F.failed
             (medium_in (file_in self.old)) (medium_in (file_in self.new))) }
     {
         let was_sound = self.is_sound;
@@ -58,11 +58,12 @@ impl<F: Medium> Package<F> {
 
     // Takes the package of its file in place of what it has in memory.
     fn read_again(&mut self) -> Result<(), Error>
-        ensures ok { OnOk result (IsFound (file_in self.old) self.new) }
-        ensures err { IfErr result (IsGivenUp (file_in self.old) (medium_in (file_in self.new))) }
-        ensures letters { letters_in (file_in self.new) ≡ letters_in (file_in self.old) }
+        ensures ok { OnOk result (IsPackageOfFile (file_in self.old) self.new) }
+        ensures after_error { IfErr result
+            (MediumGivenBack (file_in self.old) (medium_in (file_in self.new))) }
+        ensures letters { file_case_table (file_in self.new) ≡ file_case_table (file_in self.old) }
         ensures sound { IfErr result (λ e. sound_in self.new ≡ sound_in self.old) }
-        ensures kinds { IfErr result IsOpeningError }
+        ensures errors { IfErr result IsOpeningError }
     {
         match judged_parts(self.alloc, &mut self.store.file) {
             Ok((parts, is_sound)) => {

@@ -33,7 +33,7 @@ pub(crate) fn rows_of_cells(
           map (λ c. c.name) (heading_of (rc_value table)).columns,
           map (row_data pool.now.pool) (rows_held rows.items),
         )) }
-    ensures err { IfErr result (λ e. e ≡ Memory) }
+    ensures errors { IfErr result (λ e. e ≡ Memory) }
 {
     let mut told = Vec::new(alloc);
     for row in &rows {
@@ -52,7 +52,7 @@ fn row_of_cells(
     requires { length cells.now ≡ length (heading_of (rc_value table)).columns }
     ensures ok { IfOk result (λ row. row
         ≡ value_row (heading_of (rc_value table)).columns pool.now.pool cells.now) }
-    ensures err { IfErr result (λ e. e ≡ Memory) }
+    ensures errors { IfErr result (λ e. e ≡ Memory) }
 {
     let values = values_of(alloc, pool, cells)?;
     Ok(Row::new(table, values))
@@ -61,7 +61,7 @@ fn row_of_cells(
 // The values of cells.
 fn values_of(alloc: Global, pool: &StringPool, cells: &[ValueRef]) -> Result<Vec<Value>, Error>
     ensures ok { IfOk result (λ values. data_of values.items ≡ row_data pool.now.pool cells.now) }
-    ensures err { IfErr result (λ e. e ≡ Memory) }
+    ensures errors { IfErr result (λ e. e ≡ Memory) }
 {
     let mut values = Vec::new(alloc);
     for cell in cells {

@@ -1,13 +1,13 @@
 //! Packages whose rows are updated and deleted.
 ghost use Rattle.std.specs.Prelude.{IfErr};
 ghost use Rattle.cfb.specs.Views.{mini_of};
-ghost use Rattle.cfb_fat.specs.Tables.{HasCauseBelow};
+ghost use Rattle.cfb_fat.specs.Tables.{IsJustifiedBySectors};
 ghost use Rattle.cfb_mini.specs.Views.{allocator_of};
-ghost use Rattle.cfb_owned.specs.Chains.{GoesOn};
-ghost use Rattle.msi.specs.Changing.{IsChangeError, PackageChanges, PackageFills};
+ghost use Rattle.cfb_chain_io.specs.ChainEffects.{KeepsFileInvariants};
+ghost use Rattle.msi.specs.Changing.{IsChangeError, PackageChanges, FullOnlyWithoutRoom};
 ghost use Rattle.msi.specs.Opened.{file_in};
 ghost use Rattle.msi_changes.specs.Said.{delete_condition, delete_name, update_condition, update_name, update_sets};
-ghost use Rattle.msi_meaning.specs.Calls.{Deletes, Updates};
+ghost use Rattle.msi_spec.specs.Calls.{Deletes, Updates};
 
 use crate::package::Package;
 use cfb_medium::{Error, Medium};
@@ -22,19 +22,20 @@ impl<F: Medium> Package<F> {
         ensures changes { PackageChanges (λ P Q answer. Updates P (update_name query.now)
             (update_sets query.now) (update_condition query.now) Q answer)
             result self.old self.new }
-        ensures full { PackageFills (λ P Q answer. Updates P (update_name query.now)
+        ensures full_only_if { FullOnlyWithoutRoom (λ P Q answer. Updates P (update_name query.now)
             (update_sets query.now) (update_condition query.now) Q answer)
             result self.old self.new }
-        ensures goes_on { GoesOn (allocator_of (mini_of (file_in self.old)))
+        ensures invariants { KeepsFileInvariants (allocator_of (mini_of (file_in self.old)))
             (allocator_of (mini_of (file_in self.new))) }
-        ensures cause { IfErr result (HasCauseBelow (allocator_of (mini_of (file_in self.old)))
+        ensures cause { IfErr result
+            (IsJustifiedBySectors (allocator_of (mini_of (file_in self.old)))
             (allocator_of (mini_of (file_in self.new)))) }
-        ensures kinds { IfErr result IsChangeError }
+        ensures errors { IfErr result IsChangeError }
     {
         if let Err(error) = self.may_change() {
             return Err(error);
         }
-        msi_edits::update_rows(self.alloc, &mut self.store, &mut self.pool, query)
+        msi_row_edits::update_rows(self.alloc, &mut self.store, &mut self.pool, query)
     }
 
     /// Deletes rows of a table. `Failed` after an earlier fault, `InvalidData` where the package isn't sound; then `NotFound` where no
@@ -44,17 +45,18 @@ impl<F: Medium> Package<F> {
     pub fn delete_rows(&mut self, query: &Delete) -> Result<(), Error>
         ensures changes { PackageChanges (λ P Q answer. Deletes P (delete_name query.now)
             (delete_condition query.now) Q answer) result self.old self.new }
-        ensures full { PackageFills (λ P Q answer. Deletes P (delete_name query.now)
+        ensures full_only_if { FullOnlyWithoutRoom (λ P Q answer. Deletes P (delete_name query.now)
             (delete_condition query.now) Q answer) result self.old self.new }
-        ensures goes_on { GoesOn (allocator_of (mini_of (file_in self.old)))
+        ensures invariants { KeepsFileInvariants (allocator_of (mini_of (file_in self.old)))
             (allocator_of (mini_of (file_in self.new))) }
-        ensures cause { IfErr result (HasCauseBelow (allocator_of (mini_of (file_in self.old)))
+        ensures cause { IfErr result
+            (IsJustifiedBySectors (allocator_of (mini_of (file_in self.old)))
             (allocator_of (mini_of (file_in self.new)))) }
-        ensures kinds { IfErr result IsChangeError }
+        ensures errors { IfErr result IsChangeError }
     {
         if let Err(error) = self.may_change() {
             return Err(error);
         }
-        msi_edits::delete_rows(self.alloc, &mut self.store, &mut self.pool, query)
+        msi_row_edits::delete_rows(self.alloc, &mut self.store, &mut self.pool, query)
     }
 }

@@ -1,19 +1,19 @@
 //! Rows that a query asks of a package.
 ghost use Rattle.std.specs.Prelude.{◌≡◌, ◌==◌, ◌⊎◌, ◌↔◌, length, true, IfErr, IsErrOf, IsTrue};
-ghost use Rattle.cfb.specs.Streams.{FileHolds};
+ghost use Rattle.cfb.specs.Streams.{FileHoldsTree};
 ghost use Rattle.cfb.specs.Views.{mini_of};
 ghost use Rattle.cfb_tree.specs.Tree.{Tree};
-ghost use Rattle.cfb_fat.specs.Tables.{has_failed_here, HasCauseBelow};
+ghost use Rattle.cfb_fat.specs.Tables.{has_failed_here, IsJustifiedBySectors};
 ghost use Rattle.cfb_medium.specs.declared.error.Error.TheVariants.{Failed};
 ghost use Rattle.cfb_mini.specs.Views.{allocator_of};
-ghost use Rattle.msi.specs.Opened.{file_in, PackageHolds, PackageRests};
+ghost use Rattle.msi.specs.Opened.{file_in, PackageHasContent, OnlyReadsPackage};
 ghost use Rattle.msi.specs.Rows.{rows_shown};
-ghost use Rattle.msi.specs.Selected.{AnswersAt, IsRefusedQuery};
-ghost use Rattle.msi_meaning.specs.Calls.{selected_in};
-ghost use Rattle.msi_meaning.specs.Package.{Packed};
+ghost use Rattle.msi.specs.Selected.{AnswersAt, IsQueryError};
+ghost use Rattle.msi_spec.specs.Calls.{selected_in};
+ghost use Rattle.msi_spec.specs.Package.{PackageContent};
 ghost use Rattle.msi_parts.specs.Whole.{Wide};
 ghost use Rattle.msi_query.specs.Said.{query_of};
-ghost use Rattle.msi_stored.specs.Reading.{TellsOrFault};
+ghost use Rattle.msi_stored.specs.Reading.{ReturnsOrFault};
 ghost use Rattle.msi_tables.specs.Held.{heading_of, rows_held};
 ghost use Rattle.std.specs.List.{list_all};
 
@@ -30,15 +30,17 @@ impl<F: ReadMedium> Package<F> {
     /// names is missing, `InvalidInput` where a column is, the left side of a join before the right; `InvalidData` where a table that it
     /// names has too many rows or its chain breaks. Other errors are faults. The package is only read, and needn't be sound.
     pub fn select_rows(&mut self, query: &Select) -> Result<Rows, Error>
-        ensures answer { (P : Packed) → PackageHolds self.old P → TellsOrFault rows_shown
+        ensures answer { (P : PackageContent) → PackageHasContent self.old P
+            → ReturnsOrFault rows_shown
             (selected_in P (query_of query.now)) result }
-        ensures read { (tree : Tree) → FileHolds (file_in self.old) tree
+        ensures read { (tree : Tree) → FileHoldsTree (file_in self.old) tree
             → AnswersAt self.old tree query.now result }
-        ensures rests { PackageRests self.old self.new }
-        ensures failed { has_failed_here (allocator_of (mini_of (file_in self.old))) ≡ true
+        ensures only_reads { OnlyReadsPackage self.old self.new }
+        ensures when_failed { has_failed_here (allocator_of (mini_of (file_in self.old))) ≡ true
             → IsErrOf result Failed }
-        ensures cause { IfErr result (λ e. HasCauseBelow (allocator_of (mini_of (file_in self.old)))
-            (allocator_of (mini_of (file_in self.new))) e ⊎ IsRefusedQuery self.old query.now e) }
+        ensures cause { IfErr result
+            (λ e. IsJustifiedBySectors (allocator_of (mini_of (file_in self.old)))
+            (allocator_of (mini_of (file_in self.new))) e ⊎ IsQueryError self.old query.now e) }
     {
         match self.store.file.root_entry() {
             Ok(_root) => self.selected_rows(query),
@@ -48,13 +50,15 @@ impl<F: ReadMedium> Package<F> {
 
     // The same of a file that has met no fault in a write.
     fn selected_rows(&mut self, query: &Select) -> Result<Rows, Error>
-        ensures answer { (P : Packed) → PackageHolds self.old P → TellsOrFault rows_shown
+        ensures answer { (P : PackageContent) → PackageHasContent self.old P
+            → ReturnsOrFault rows_shown
             (selected_in P (query_of query.now)) result }
-        ensures read { (tree : Tree) → FileHolds (file_in self.old) tree
+        ensures read { (tree : Tree) → FileHoldsTree (file_in self.old) tree
             → AnswersAt self.old tree query.now result }
-        ensures rests { PackageRests self.old self.new }
-        ensures cause { IfErr result (λ e. HasCauseBelow (allocator_of (mini_of (file_in self.old)))
-            (allocator_of (mini_of (file_in self.new))) e ⊎ IsRefusedQuery self.old query.now e) }
+        ensures only_reads { OnlyReadsPackage self.old self.new }
+        ensures cause { IfErr result
+            (λ e. IsJustifiedBySectors (allocator_of (mini_of (file_in self.old)))
+            (allocator_of (mini_of (file_in self.new))) e ⊎ IsQueryError self.old query.now e) }
     {
         match query.apply(self.alloc, &mut self.store, &self.pool) {
             Ok((table, rows)) => {

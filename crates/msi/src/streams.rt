@@ -4,21 +4,21 @@
 ghost use Rattle.std.specs.Iterator.{YieldsFirst, item_count};
 ghost use Rattle.std.specs.List.{flat_map};
 ghost use Rattle.std.specs.Prelude.{◌≡◌, ◌++◌, ◌⊎◌, map, string_bytes, true, IfErr, IfOk, MatchResult, OnOk};
-ghost use Rattle.cfb.specs.Putting.{IsRefusedOpening};
-ghost use Rattle.cfb.specs.Streams.{FileHolds};
-ghost use Rattle.cfb.specs.Views.{letters_in, mini_of};
+ghost use Rattle.cfb.specs.Putting.{IsOpenStreamError};
+ghost use Rattle.cfb.specs.Streams.{FileHoldsTree};
+ghost use Rattle.cfb.specs.Views.{file_case_table, mini_of};
 ghost use Rattle.cfb_entries.specs.Listed.{listed_in};
 ghost use Rattle.cfb_entries.specs.Lists.{entries_left};
-ghost use Rattle.cfb_fat.specs.Tables.{HasCauseBelow};
-ghost use Rattle.cfb_medium.specs.Calls.{IsFaultUnless};
+ghost use Rattle.cfb_fat.specs.Tables.{IsJustifiedBySectors};
+ghost use Rattle.cfb_medium.specs.Calls.{IsFaultOrInvalidInputIf};
 ghost use Rattle.cfb_medium.specs.declared.error.Error.TheVariants.{Memory};
 ghost use Rattle.cfb_mini.specs.Views.{allocator_of};
-ghost use Rattle.cfb_tree.specs.LetterViews.{letters_of};
+ghost use Rattle.cfb_tree.specs.CaseTableViews.{case_table_of};
 ghost use Rattle.cfb_tree.specs.Tree.{Tree};
-ghost use Rattle.msi_meaning.specs.Opening.{may_use};
-ghost use Rattle.msi_meaning.specs.Package.{Packed};
-ghost use Rattle.msi_meaning.specs.Split.{Stores};
-ghost use Rattle.msi_meaning.specs.Streams.{stream_names};
+ghost use Rattle.msi_spec.specs.Opening.{keeps_encoded_names};
+ghost use Rattle.msi_spec.specs.Package.{PackageContent};
+ghost use Rattle.msi_spec.specs.Split.{TreeStoresRest};
+ghost use Rattle.msi_spec.specs.Streams.{stream_names};
 ghost use Rattle.msi.specs.Lists.{name_listed, streams_left};
 
 use cfb::{CaseMapper, CompoundFile, Entries, Entry};
@@ -42,13 +42,14 @@ impl Streams {
         alloc: Global,
         file: &CompoundFile<F>,
     ) -> Result<Streams, Error>
-        ensures told { (tree : Tree) → FileHolds file.now tree → (P : Packed)
-            → Stores (letters_in file.now) tree P → may_use (letters_in file.now) ≡ true
+        ensures answer { (tree : Tree) → FileHoldsTree file.now tree → (P : PackageContent)
+            → TreeStoresRest (file_case_table file.now) tree P
+            → keeps_encoded_names (file_case_table file.now) ≡ true
             → MatchResult result (λ it. map string_bytes (streams_left it)
-            ≡ stream_names (letters_in file.now) P) (IsFaultUnless ⊥) }
-        ensures cause { IfErr result (HasCauseBelow (allocator_of (mini_of file.now))
+            ≡ stream_names (file_case_table file.now) P) (IsFaultOrInvalidInputIf ⊥) }
+        ensures cause { IfErr result (IsJustifiedBySectors (allocator_of (mini_of file.now))
             (allocator_of (mini_of file.now))) }
-        ensures error { IfErr result (λ e. IsFaultUnless ⊥ e ⊎ IsRefusedOpening e) }
+        ensures errors { IfErr result (λ e. IsFaultOrInvalidInputIf ⊥ e ⊎ IsOpenStreamError e) }
     {
         let entries = match file.read_root_storage() {
             Ok(entries) => entries,
@@ -64,8 +65,9 @@ impl Streams {
 // The names of those among objects that were listed.
 fn names_of(alloc: Global, letters: &CaseMapper, entries: Entries) -> Result<Vec<String>, Error>
     ensures ok { IfOk result (λ names. map string_bytes names.items
-        ≡ flat_map (name_listed (letters_of letters.now)) (map listed_in (entries_left entries))) }
-    ensures err { IfErr result (λ e. e ≡ Memory) }
+        ≡ flat_map (name_listed (case_table_of letters.now))
+        (map listed_in (entries_left entries))) }
+    ensures errors { IfErr result (λ e. e ≡ Memory) }
 {
     let mut names = Vec::new(alloc);
     for entry in entries {
@@ -82,8 +84,8 @@ fn push_name(
     entry: &Entry,
 ) -> Result<(), Error>
     ensures ok { OnOk result (map string_bytes names.new.items ≡ map string_bytes names.old.items
-        ++ name_listed (letters_of letters.now) (listed_in entry.now)) }
-    ensures err { IfErr result (λ e. e ≡ Memory) }
+        ++ name_listed (case_table_of letters.now) (listed_in entry.now)) }
+    ensures errors { IfErr result (λ e. e ≡ Memory) }
 {
     if entry.is_storage() {
         return Ok(());

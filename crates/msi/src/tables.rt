@@ -26,7 +26,7 @@ impl Tables {
     pub(crate) fn new(alloc: Global, tables: &[Rc<Table>]) -> Result<Tables, Error>
         ensures names { IfOk result (λ it. map string_bytes (tables_left it)
             ≡ map (λ h. h.name) (map (λ t. heading_of (rc_value t)) tables.now)) }
-        ensures err { IfErr result (λ e. e ≡ Memory) }
+        ensures errors { IfErr result (λ e. e ≡ Memory) }
     {
         let names = names_of(alloc, tables)?;
         Ok(Tables {
@@ -39,7 +39,7 @@ impl Tables {
 fn names_of(alloc: Global, tables: &[Rc<Table>]) -> Result<Vec<String>, Error>
     ensures ok { IfOk result (λ names. map string_bytes names.items
         ≡ map (λ h. h.name) (map (λ t. heading_of (rc_value t)) tables.now)) }
-    ensures err { IfErr result (λ e. e ≡ Memory) }
+    ensures errors { IfErr result (λ e. e ≡ Memory) }
 {
     let mut names = Vec::new(alloc);
     for table in tables {

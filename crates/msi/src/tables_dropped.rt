@@ -1,12 +1,12 @@
 //! Packages of which tables are dropped.
 ghost use Rattle.std.specs.Prelude.{IfErr};
 ghost use Rattle.cfb.specs.Views.{mini_of};
-ghost use Rattle.cfb_fat.specs.Tables.{HasCauseBelow};
+ghost use Rattle.cfb_fat.specs.Tables.{IsJustifiedBySectors};
 ghost use Rattle.cfb_mini.specs.Views.{allocator_of};
-ghost use Rattle.cfb_owned.specs.Chains.{GoesOn};
-ghost use Rattle.msi.specs.Changing.{IsChangeError, PackageChanges, PackageFills};
+ghost use Rattle.cfb_chain_io.specs.ChainEffects.{KeepsFileInvariants};
+ghost use Rattle.msi.specs.Changing.{IsChangeError, PackageChanges, FullOnlyWithoutRoom};
 ghost use Rattle.msi.specs.Opened.{file_in};
-ghost use Rattle.msi_meaning.specs.Calls.{Drops};
+ghost use Rattle.msi_spec.specs.Calls.{Drops};
 
 use crate::package::Package;
 use cfb_medium::{Error, Medium};
@@ -19,17 +19,19 @@ impl<F: Medium> Package<F> {
     pub fn drop_table(&mut self, name: &str) -> Result<(), Error>
         ensures changes { PackageChanges (λ P Q answer. Drops P name.now Q answer) result self.old
             self.new }
-        ensures full { PackageFills (λ P Q answer. Drops P name.now Q answer) result self.old
+        ensures full_only_if { FullOnlyWithoutRoom
+            (λ P Q answer. Drops P name.now Q answer) result self.old
             self.new }
-        ensures goes_on { GoesOn (allocator_of (mini_of (file_in self.old)))
+        ensures invariants { KeepsFileInvariants (allocator_of (mini_of (file_in self.old)))
             (allocator_of (mini_of (file_in self.new))) }
-        ensures cause { IfErr result (HasCauseBelow (allocator_of (mini_of (file_in self.old)))
+        ensures cause { IfErr result
+            (IsJustifiedBySectors (allocator_of (mini_of (file_in self.old)))
             (allocator_of (mini_of (file_in self.new)))) }
-        ensures kinds { IfErr result IsChangeError }
+        ensures errors { IfErr result IsChangeError }
     {
         if let Err(error) = self.may_change() {
             return Err(error);
         }
-        msi_making::drop_table(self.alloc, &mut self.store, &mut self.pool, name)
+        msi_table_edits::drop_table(self.alloc, &mut self.store, &mut self.pool, name)
     }
 }

@@ -1,14 +1,14 @@
 //! Packages that get tables.
 ghost use Rattle.std.specs.Prelude.{IfErr};
-ghost use Rattle.cfb.specs.Views.{letters_in, mini_of};
-ghost use Rattle.cfb_fat.specs.Tables.{HasCauseBelow};
+ghost use Rattle.cfb.specs.Views.{file_case_table, mini_of};
+ghost use Rattle.cfb_fat.specs.Tables.{IsJustifiedBySectors};
 ghost use Rattle.cfb_mini.specs.Views.{allocator_of};
-ghost use Rattle.cfb_owned.specs.Chains.{GoesOn};
+ghost use Rattle.cfb_chain_io.specs.ChainEffects.{KeepsFileInvariants};
 ghost use Rattle.msi_columns.specs.Held.{columns_of};
-ghost use Rattle.msi.specs.Changing.{IsChangeError, PackageChanges, PackageFills};
+ghost use Rattle.msi.specs.Changing.{IsChangeError, PackageChanges, FullOnlyWithoutRoom};
 ghost use Rattle.msi.specs.Opened.{file_in};
-ghost use Rattle.msi_making.specs.Validating.{Validates};
-ghost use Rattle.msi_meaning.specs.Calls.{Creates};
+ghost use Rattle.msi_table_edits.specs.Validating.{Validates};
+ghost use Rattle.msi_spec.specs.Calls.{Creates};
 
 use crate::package::Package;
 use cfb_medium::{Error, Medium};
@@ -23,20 +23,23 @@ impl<F: Medium> Package<F> {
     /// file; the uses of texts are counted in memory, and written by a flush. After an error nothing is changed, or the package has
     /// failed.
     pub fn create_table(&mut self, name: &str, columns: Vec<Column>) -> Result<(), Error>
-        ensures changes { PackageChanges (λ P Q answer. Creates (letters_in (file_in self.old)) P
+        ensures changes { PackageChanges
+            (λ P Q answer. Creates (file_case_table (file_in self.old)) P
             name.now (columns_of columns.items) Q answer) result self.old self.new }
-        ensures full { PackageFills (λ P Q answer. Creates (letters_in (file_in self.old)) P
+        ensures full_only_if { FullOnlyWithoutRoom
+            (λ P Q answer. Creates (file_case_table (file_in self.old)) P
             name.now (columns_of columns.items) Q answer) result self.old self.new }
-        ensures goes_on { GoesOn (allocator_of (mini_of (file_in self.old)))
+        ensures invariants { KeepsFileInvariants (allocator_of (mini_of (file_in self.old)))
             (allocator_of (mini_of (file_in self.new))) }
-        ensures cause { IfErr result (HasCauseBelow (allocator_of (mini_of (file_in self.old)))
+        ensures cause { IfErr result
+            (IsJustifiedBySectors (allocator_of (mini_of (file_in self.old)))
             (allocator_of (mini_of (file_in self.new)))) }
-        ensures kinds { IfErr result IsChangeError }
+        ensures errors { IfErr result IsChangeError }
     {
         if let Err(error) = self.may_change() {
             return Err(error);
         }
-        msi_making::create_table(self.alloc, &mut self.store, &mut self.pool, name, columns)
+        msi_table_edits::create_table(self.alloc, &mut self.store, &mut self.pool, name, columns)
     }
 
     /// Gives the package an empty table `_Validation`, which `_Columns` and `_Tables` list: packages of other makers may have none, and
@@ -46,19 +49,22 @@ impl<F: Medium> Package<F> {
     /// the two tables are written to the file; the uses of texts are counted in memory, and written by a flush. After an error nothing is
     /// changed, or the package has failed.
     pub fn add_validation(&mut self) -> Result<(), Error>
-        ensures changes { PackageChanges (λ P Q answer. Validates (letters_in (file_in self.old)) P
+        ensures changes { PackageChanges
+            (λ P Q answer. Validates (file_case_table (file_in self.old)) P
             Q answer) result self.old self.new }
-        ensures full { PackageFills (λ P Q answer. Validates (letters_in (file_in self.old)) P Q
+        ensures full_only_if { FullOnlyWithoutRoom
+            (λ P Q answer. Validates (file_case_table (file_in self.old)) P Q
             answer) result self.old self.new }
-        ensures goes_on { GoesOn (allocator_of (mini_of (file_in self.old)))
+        ensures invariants { KeepsFileInvariants (allocator_of (mini_of (file_in self.old)))
             (allocator_of (mini_of (file_in self.new))) }
-        ensures cause { IfErr result (HasCauseBelow (allocator_of (mini_of (file_in self.old)))
+        ensures cause { IfErr result
+            (IsJustifiedBySectors (allocator_of (mini_of (file_in self.old)))
             (allocator_of (mini_of (file_in self.new)))) }
-        ensures kinds { IfErr result IsChangeError }
+        ensures errors { IfErr result IsChangeError }
     {
         if let Err(error) = self.may_change() {
             return Err(error);
         }
-        msi_making::add_validation(self.alloc, &mut self.store, &mut self.pool)
+        msi_table_edits::add_validation(self.alloc, &mut self.store, &mut self.pool)
     }
 }

@@ -22,7 +22,7 @@ impl<'a, F: Medium> StreamWriterOver<'a, F, MemoryMedium> {
     ghost use Rattle.cfb_medium.specs.Bytes.{overwritten};
     ghost use Rattle.cfb_medium.specs.declared.error.Error.TheVariants.{InvalidInput, Memory};
     ghost use Rattle.cfb_sectors.specs.Seeking.{Finds};
-    ghost use Rattle.msi.specs.Writers.{content_in, lender_of, name_in, package_under, place_in, Puts, WriterKeeps, WriterRests};
+    ghost use Rattle.msi.specs.Writers.{content_in, lender_of, name_in, package_under, place_in, ReplacesStream, WriterKeeps, WriterRests};
 
     // The writer of a stream without bytes.
     pub(crate) fn new(over: &'a mut Package<F>, name: &'a str) -> StreamWriter<'a, F>
@@ -63,10 +63,10 @@ impl<'a, F: Medium> StreamWriterOver<'a, F, MemoryMedium> {
             ≡ overwritten (content_in self.old) (place_in self.old) bytes.now) }
         ensures count { IfOk result (λ n. (n ≡ length bytes.now)
             × (place_in self.new ≡ place_in self.old + n)) }
-        ensures refused { IfErr result (λ e. (e ≡ Memory) ⊎ ((e ≡ InvalidInput)
+        ensures refused_only_if { IfErr result (λ e. (e ≡ Memory) ⊎ ((e ≡ InvalidInput)
             × (2 ^ 63 ≤ place_in self.old + length bytes.now))) }
         ensures keeps { OnErr result (WriterKeeps self.old self.new) }
-        ensures rests { WriterRests self.old self.new }
+        ensures only_reads { WriterRests self.old self.new }
     {
         self.content.write_at(self.position, bytes)?;
         self.position += bytes.len() as u64;
@@ -79,11 +79,11 @@ impl<'a, F: Medium> StreamWriterOver<'a, F, MemoryMedium> {
         ensures ok { IfOk result
             (λ n. Finds from (length (content_in self.old)) (place_in self.old) n
             × (place_in self.new ≡ n)) }
-        ensures refused { IfErr result (λ e. (e ≡ InvalidInput) × ((n : ℕ)
+        ensures refused_only_if { IfErr result (λ e. (e ≡ InvalidInput) × ((n : ℕ)
             → Finds from (length (content_in self.old)) (place_in self.old) n → ⊥)) }
         ensures unmoved { OnErr result (place_in self.new ≡ place_in self.old) }
         ensures content { content_in self.new ≡ content_in self.old }
-        ensures rests { WriterRests self.old self.new }
+        ensures only_reads { WriterRests self.old self.new }
     {
         let Some(place) = place_found(from, self.len(), self.position) else {
             return Err(Error::InvalidInput);
@@ -94,7 +94,7 @@ impl<'a, F: Medium> StreamWriterOver<'a, F, MemoryMedium> {
 
     /// Puts the bytes into the package, as `put_stream` does; the writer has them still, and goes on. Errors are those of `put_stream`.
     pub fn flush(&mut self) -> Result<(), Error>
-        ensures puts { Puts (name_in self.old) (content_in self.old) result
+        ensures puts { ReplacesStream (name_in self.old) (content_in self.old) result
             (package_under self.old) (package_under self.new) }
         ensures keeps { WriterKeeps self.old self.new }
         ensures lender { lender_of self.new ≡ lender_of self.old }
@@ -105,7 +105,7 @@ impl<'a, F: Medium> StreamWriterOver<'a, F, MemoryMedium> {
 
     /// Puts the bytes into the package, as `put_stream` does, and ends the writing.
     pub fn close(self) -> Result<(), Error>
-        ensures puts { Puts (name_in self.entry) (content_in self.entry) result
+        ensures puts { ReplacesStream (name_in self.entry) (content_in self.entry) result
             (package_under self.entry) self.exit.0.now }
     {
         let StreamWriterOver {

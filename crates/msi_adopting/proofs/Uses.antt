@@ -2,19 +2,19 @@
 use Rattle.std.proofs.Common.{◌≡◌, ◌∙◌, ℕ, zero, suc, ◌+◌, ◌-◌, ◌<◌, ◌≤◌, ◌⊎◌, inl, inr, true, false, List, [], ◌∷◌, map, length, refl, sym, subst, arith}
 use Rattle.std.specs.Prelude.{All, Err, IfErr, IfOk, MatchResult, Ok, Result, Vec}
 use Rattle.std.specs.declared.alloc.Global.{Global}
-use Rattle.cfb_medium.specs.Calls.{IsFaultUnless}
+use Rattle.cfb_medium.specs.Calls.{IsFaultOrInvalidInputIf}
 use Rattle.cfb_medium.specs.declared.error.Error.{Error}
 use Rattle.cfb_medium.specs.declared.error.Error.TheVariants.{InvalidData, Memory}
 use Rattle.std.proofs.lemmas.Bool.{cases_lt}
 use Rattle.std.proofs.lemmas.List.{get_or-replicate, get_or_past, length-map, length-replicate}
 use Rattle.std.proofs.lemmas.List.Elements.{All-cons, All-head, All-tail}
 use Rattle.std.proofs.lemmas.List.Sums.{sum_by-cons}
-use Rattle.cfb_tree.specs.Names.{Letters}
+use Rattle.cfb_tree.specs.Names.{CaseTable}
 use Rattle.cfb_tree.specs.Tree.{Tree}
 use Rattle.msi_changes.specs.Laws.{uses_in}
-use Rattle.msi_judge.specs.Counting.{TableIsRead, TakesRows, rows_at, table_at}
-use Rattle.msi_meaning.specs.Sound.{uses_of}
-use Rattle.msi_meaning.specs.Uses.{left_at}
+use Rattle.msi_soundness.specs.Counting.{TableIsRead, RefcountsTaken, rows_at, table_at}
+use Rattle.msi_spec.specs.Sound.{refcounts_of}
+use Rattle.msi_spec.specs.Uses.{left_at}
 use Rattle.msi_tables.specs.Table.{Heading, Table}
 use Rattle.msi_adopting.specs.Counted.{AreUsesAt, CanBeCounted, full_counts}
 
@@ -23,9 +23,9 @@ mapped [] k below = absurd (omega (arith, below))
 mapped (l ∷ ls) zero below = refl
 mapped (l ∷ ls) (suc k) below = mapped ls k (omega (arith, below))
 
-module _ (letters : Letters) (tree : Tree) (n : ℕ) (all : List Heading) where
+module _ (letters : CaseTable) (tree : Tree) (n : ℕ) (all : List Heading) where
   abbrev uses_at : List Heading → ℕ → ℕ
-  uses_at hs k = uses_of (map (table_at letters tree) hs) k
+  uses_at hs k = refcounts_of (map (table_at letters tree) hs) k
 
   -- what the tables so far use and what is left make the greatest count
   pub record SoFar (rest : List Heading) (left : List ℕ) : Type 0 where
@@ -41,7 +41,7 @@ module _ (letters : Letters) (tree : Tree) (n : ℕ) (all : List Heading) where
     parted : (k : ℕ) → uses_at (h ∷ rest) k ≡ uses_in (rows_at letters tree h) k + uses_at rest k
     parted k = sum_by-cons (λ (t : Table). uses_in t.rows k) (table_at letters tree h) (map (table_at letters tree) rest)
 
-    pub goes_on : TakesRows letters tree h old new true → length new ≡ n → SoFar rest new
+    pub goes_on : RefcountsTaken letters tree h old new true → length new ≡ n → SoFar rest new
     goes_on t size = record {
       size = size;
       sum = λ k. (let took = (t.uses (t.read refl)).taken refl k in let so = s.sum k in let parts = parted (suc k) in omega (arith, took, so, parts));
@@ -49,7 +49,7 @@ module _ (letters : Letters) (tree : Tree) (n : ℕ) (all : List Heading) where
       back = λ every. All-tail (TableIsRead letters tree) h rest (s.back every);
     }
 
-    pub ends_short : TakesRows letters tree h old new false → CanBeCounted letters tree all n → ⊥
+    pub ends_short : RefcountsTaken letters tree h old new false → CanBeCounted letters tree all n → ⊥
     ends_short t can =
         let short = (t.uses (All-head (TableIsRead letters tree) h rest (s.back can.read))).short refl in
         let few = short.1 in let so = s.sum short.0 in let parts = parted (suc short.0) in let most = can.few short.0 in
@@ -75,8 +75,8 @@ module _ (letters : Letters) (tree : Tree) (n : ℕ) (all : List Heading) where
           omega (arith, so, full, none)
 
 -- what was taken behind the last table, or want of memory
-pub ended : (letters : Letters) (tree : Tree) (n : ℕ) (all : List Heading) (left : List ℕ) (r : Result (Vec ℕ Global) Error) → SoFar letters tree n all [] left
+pub ended : (letters : CaseTable) (tree : Tree) (n : ℕ) (all : List Heading) (left : List ℕ) (r : Result (Vec ℕ Global) Error) → SoFar letters tree n all [] left
     → IfOk r (λ uses. uses.items ≡ map (λ l. 65535 - l) left) → IfErr r (λ e. e ≡ Memory)
-    → MatchResult r (λ uses. AreUsesAt letters tree all n uses.items) (λ e. IsFaultUnless ⊥ e ⊎ ((e ≡ InvalidData) × (CanBeCounted letters tree all n → ⊥)))
+    → MatchResult r (λ uses. AreUsesAt letters tree all n uses.items) (λ e. IsFaultOrInvalidInputIf ⊥ e ⊎ ((e ≡ InvalidData) × (CanBeCounted letters tree all n → ⊥)))
 ended letters tree n all left (Ok uses) s ok err = subst (λ us. AreUsesAt letters tree all n us) (sym ok) (ends letters tree n all left s)
-ended letters tree n all left (Err e) s ok err = inl (subst (IsFaultUnless ⊥) (sym err) tt)
+ended letters tree n all left (Err e) s ok err = inl (subst (IsFaultOrInvalidInputIf ⊥) (sym err) tt)

@@ -2,23 +2,23 @@
 use Rattle.std.proofs.Common.{◌≡◌, ◌∙◌, ◌⊎◌, ◌<◌, ℕ, Bool, true, false, List, ap, inl, inr, length, refl, subst, sym}
 use Rattle.std.specs.Prelude.{Err, IfErr, IfOk, MatchResult, Ok, Result}
 use Rattle.cfb.proofs.LiveMeaning.{holds_meant, means_read}
-use Rattle.cfb.specs.Doing.{CopiesFile, FileMeans}
-use Rattle.cfb.specs.Streams.{FileHolds}
-use Rattle.cfb.specs.Views.{letters_in, mini_of, FileRests}
+use Rattle.cfb.specs.FollowedRules.{CopiesFile, FileMeansTree}
+use Rattle.cfb.specs.Streams.{FileHoldsTree}
+use Rattle.cfb.specs.Views.{file_case_table, mini_of, OnlyReadsFile}
 use Rattle.cfb.specs.declared.compound_file.CompoundFile.{CompoundFile}
 use Rattle.cfb_copying.specs.Copied.{HoldsCopy}
 use Rattle.cfb_fat.specs.Tables.{version_of}
-use Rattle.cfb_medium.specs.Calls.{Extends}
+use Rattle.cfb_medium.specs.Calls.{Reaches}
 use Rattle.cfb_medium.specs.Versions.{stream_len_mask}
 use Rattle.cfb_medium.specs.declared.error.Error.{Error}
 use Rattle.cfb_medium.specs.declared.medium.ReadMedium.{Ghosts}
 use Rattle.cfb_medium.specs.declared.version.Version.{Version}
 use Rattle.cfb_mini.specs.Views.{allocator_of}
-use Rattle.cfb_tree.specs.Names.{Letters}
+use Rattle.cfb_tree.specs.Names.{CaseTable}
 use Rattle.cfb_tree.specs.Tree.{Tree}
-use Rattle.msi_meaning.specs.Opening.{may_use}
-use Rattle.msi_meaning.specs.Package.{Packed, Packs}
-use Rattle.msi_adopting.specs.Adopted.{GetsPool, GoesOnFrom, HasLongText, IsPackageIn, IsPoolTooLong, IsUnadopted}
+use Rattle.msi_spec.specs.Opening.{keeps_encoded_names}
+use Rattle.msi_spec.specs.Package.{PackageContent, TreePacksPackage}
+use Rattle.msi_adopting.specs.Adopted.{GetsPool, PublishesNothing, HasLongText, IsPackageIn, IsPoolTooLong, IsUnadopted}
 
 -- what is answered of both, by parts
 pub match_ok : {X E : Type 0} (A : X → Type 0) (B : E → Type 0) (r : Result X E) → MatchResult r A B → IfOk r A
@@ -31,12 +31,12 @@ by_failed true one other = one refl
 by_failed false one other = other refl
 
 -- the medium went on from an earlier one
-pub left_then : {M : Type 0} (honest : M → Bool) (continues : M → M → Type 0) (a b : M) → honest b ≡ honest a → Extends continues a b → (r : Result M (M × Error))
-    → MatchResult r (GoesOnFrom honest continues b) (λ e. GoesOnFrom honest continues b e.0) → MatchResult r (GoesOnFrom honest continues a) (λ e. GoesOnFrom honest continues a e.0)
+pub left_then : {M : Type 0} (honest : M → Bool) (continues : M → M → Type 0) (a b : M) → honest b ≡ honest a → Reaches continues a b → (r : Result M (M × Error))
+    → MatchResult r (PublishesNothing honest continues b) (λ e. PublishesNothing honest continues b e.0) → MatchResult r (PublishesNothing honest continues a) (λ e. PublishesNothing honest continues a e.0)
 left_then honest continues a b same extends (Ok m) left = (left.0 ∙ same, λ start from. left.1 start (extends start from))
 left_then honest continues a b same extends (Err e) left = (left.0 ∙ same, λ start from. left.1 start (extends start from))
 
-module _ (letters : Letters) (tree : Tree) (P : Packed) where
+module _ (letters : CaseTable) (tree : Tree) (P : PackageContent) where
   longer : (A B : Type 0) (e : Error) → (A → B) → IsUnadopted letters tree P A e → IsUnadopted letters tree P B e
   longer A B e more (inl fault) = inl fault
   longer A B e more (inr (inl rule)) = inr (inl rule)
@@ -48,26 +48,26 @@ module _ (letters : Letters) (tree : Tree) (P : Packed) where
   refused_long version pool gets A (Err e) told =
       longer (stream_len_mask version < length pool) (HasLongText P ⊎ IsPoolTooLong version P) e.1 (λ long. inr (subst (λ (b : List ℕ). stream_len_mask version < length b) gets.stream long)) told
 
-module _ {S : Type 0} {s : Ghosts S} (a : CompoundFile S s) (letters : Letters) (tree : Tree) (P : Packed) (is : IsPackageIn letters a tree P) where
-  pub holds : FileHolds a tree
+module _ {S : Type 0} {s : Ghosts S} (a : CompoundFile S s) (letters : CaseTable) (tree : Tree) (P : PackageContent) (is : IsPackageIn letters a tree P) where
+  pub holds : FileHoldsTree a tree
   holds = holds_meant a tree is.means
 
-  pub may_here : may_use (letters_in a) ≡ true
-  may_here = ap may_use is.compared ∙ is.usable
+  pub may_here : keeps_encoded_names (file_case_table a) ≡ true
+  may_here = ap keeps_encoded_names is.compared ∙ is.usable
 
-  pub packs_here : Packs (letters_in a) tree P
-  packs_here = subst (λ l. Packs l tree P) (sym is.compared) is.packs
+  pub packs_here : TreePacksPackage (file_case_table a) tree P
+  packs_here = subst (λ l. TreePacksPackage l tree P) (sym is.compared) is.packs
 
   -- a refusal before the copy is made
-  pub first_refused : (B : Type 0) (e : Error) → IsUnadopted (letters_in a) tree P (HasLongText P) e → IsUnadopted letters tree P (HasLongText P ⊎ B) e
+  pub first_refused : (B : Type 0) (e : Error) → IsUnadopted (file_case_table a) tree P (HasLongText P) e → IsUnadopted letters tree P (HasLongText P ⊎ B) e
   first_refused B e told =
       longer letters tree P (HasLongText P) (HasLongText P ⊎ B) e (λ long. inl long) (subst (λ l. IsUnadopted l tree P (HasLongText P) e) is.compared told)
 
-  pub gets_here : (items pool : List ℕ) → pool ≡ items → GetsPool (letters_in a) tree P items → GetsPool letters tree P pool
+  pub gets_here : (items pool : List ℕ) → pool ≡ items → GetsPool (file_case_table a) tree P items → GetsPool letters tree P pool
   gets_here items pool same gets = subst (λ b. GetsPool letters tree P b) (sym same) (subst (λ l. GetsPool l tree P items) is.compared gets)
 
-  module _ (m : CompoundFile S s) (rests : FileRests a m) where
-    pub means_here : FileMeans m tree
+  module _ (m : CompoundFile S s) (rests : OnlyReadsFile a m) where
+    pub means_here : FileMeansTree m tree
     means_here = means_read a m tree rests is.means
 
     pub copy_here : (bytes : List ℕ) → CopiesFile m tree bytes → HoldsCopy (version_of (allocator_of (mini_of a))) letters bytes tree

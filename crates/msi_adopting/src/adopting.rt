@@ -1,25 +1,25 @@
 //! A copy of a package, with right counts.
 ghost use Rattle.std.specs.Prelude.{◌≡◌, ◌⊎◌, ◌<◌, ◌^◌, [], false, length, nat_lt, true, Err, IfErr, IfOk, IsTrue, MatchResult};
 ghost use Rattle.std.specs.List.{list_all};
-ghost use Rattle.cfb.specs.Streams.{FileHolds};
-ghost use Rattle.cfb.specs.Views.{letters_in, mini_of, sound_of, FileRests};
-ghost use Rattle.cfb_fat.specs.Tables.{version_of, HasCauseBelow};
-ghost use Rattle.cfb_medium.specs.Calls.{HasCauseSince};
+ghost use Rattle.cfb.specs.Streams.{FileHoldsTree};
+ghost use Rattle.cfb.specs.Views.{file_case_table, mini_of, sound_of, OnlyReadsFile};
+ghost use Rattle.cfb_fat.specs.Tables.{version_of, IsJustifiedBySectors};
+ghost use Rattle.cfb_medium.specs.Calls.{IsJustifiedSince};
 ghost use Rattle.cfb_medium.specs.declared.error.Error.{Error};
 ghost use Rattle.cfb_medium.specs.declared.error.Error.TheVariants.{InvalidData, InvalidInput, Memory};
 ghost use Rattle.cfb_mini.specs.Views.{allocator_of};
-ghost use Rattle.cfb_tree.specs.LetterViews.{letters_of};
+ghost use Rattle.cfb_tree.specs.CaseTableViews.{case_table_of};
 ghost use Rattle.cfb_tree.specs.Tree.{Tree};
-ghost use Rattle.msi_adopting.specs.Adopted.{GetsPool, GoesOnFrom, HasLongText, IsAdopted, IsAdoptError, IsPackageIn, IsPoolTooLong, IsRefusedAs, IsUnadopted};
-ghost use Rattle.msi_meaning.specs.Opening.{may_use, opened};
-ghost use Rattle.msi_meaning.specs.Package.{Packed, Packs};
-ghost use Rattle.msi_parts.specs.Held.{AreHeld};
+ghost use Rattle.msi_adopting.specs.Adopted.{GetsPool, PublishesNothing, HasLongText, IsAdopted, IsAdoptError, IsPackageIn, IsPoolTooLong, IsRefusedAs, IsUnadopted};
+ghost use Rattle.msi_spec.specs.Opening.{keeps_encoded_names, opened};
+ghost use Rattle.msi_spec.specs.Package.{PackageContent, TreePacksPackage};
+ghost use Rattle.msi_parts.specs.Held.{ArePartsOfTree};
 ghost use Rattle.msi_pool.specs.Pool.{pool_stream, stored_of};
 ghost use Rattle.msi_pool.specs.PoolKept.{AreFreeEmpty};
 ghost use Rattle.msi_pool.specs.PoolState.{length_limit};
 ghost use Rattle.msi_recounted.specs.Counts.{listed_uses, pool_with};
 ghost use Rattle.msi_stored.specs.Reading.{IsOpeningError};
-ghost use Rattle.msi_stored.specs.Shown.{bytes_in, HoldsShown};
+ghost use Rattle.msi_stored.specs.Shown.{bytes_in, StoreShowsTree};
 
 use crate::counting::uses_of_places;
 use crate::putting::with_pool;
@@ -47,25 +47,25 @@ pub fn adopt<S: ReadMedium, T: Medium>(
     letters: CaseMapper,
 ) -> Result<T, (T, Error)>
     requires { IsTrue (T.honest target) → T.bytes target ≡ [] }
-    ensures adopted { (tree : Tree) (P : Packed) → IsTrue (T.honest target)
-        → IsPackageIn (letters_of letters) source.old tree P → IfOk result
-        (λ medium. IsAdopted (letters_of letters) tree P (T.bytes medium)) }
-    ensures refused { (tree : Tree) (P : Packed) → IsTrue (T.honest target)
-        → IsPackageIn (letters_of letters) source.old tree P → IfErr result
-        (λ e. IsUnadopted (letters_of letters) tree P (HasLongText P
+    ensures adopted { (tree : Tree) (P : PackageContent) → IsTrue (T.honest target)
+        → IsPackageIn (case_table_of letters) source.old tree P → IfOk result
+        (λ medium. IsAdopted (case_table_of letters) tree P (T.bytes medium)) }
+    ensures refused_only_if { (tree : Tree) (P : PackageContent) → IsTrue (T.honest target)
+        → IsPackageIn (case_table_of letters) source.old tree P → IfErr result
+        (λ e. IsUnadopted (case_table_of letters) tree P (HasLongText P
         ⊎ IsPoolTooLong (version_of (allocator_of (mini_of source.old))) P) e.1) }
     ensures unsound { sound_of source.old ≡ false → IfOk result (λ medium. ⊥) }
-    ensures unopened { (tree : Tree) (expected : Error) → HoldsShown source.old tree
-        → may_use (letters_in source.old) ≡ true
-        → opened (letters_in source.old) tree ≡ Err expected → MatchResult result (λ medium. ⊥)
-        (λ e. IsRefusedAs (letters_in source.old) (bytes_in source.old) expected e.1) }
-    ensures kinds { IfErr result (λ e. IsAdoptError e.1) }
-    ensures cause { IfErr result (λ e. HasCauseBelow (allocator_of (mini_of source.old))
+    ensures unopened { (tree : Tree) (expected : Error) → StoreShowsTree source.old tree
+        → keeps_encoded_names (file_case_table source.old) ≡ true
+        → opened (file_case_table source.old) tree ≡ Err expected → MatchResult result (λ medium. ⊥)
+        (λ e. IsRefusedAs (file_case_table source.old) (bytes_in source.old) expected e.1) }
+    ensures errors { IfErr result (λ e. IsAdoptError e.1) }
+    ensures cause { IfErr result (λ e. IsJustifiedBySectors (allocator_of (mini_of source.old))
         (allocator_of (mini_of source.new)) e.1
-        ⊎ HasCauseSince T.continues T.failures T.failed target e.0 e.1) }
-    ensures left { MatchResult result (GoesOnFrom T.honest T.continues target)
-        (λ e. GoesOnFrom T.honest T.continues target e.0) }
-    ensures rests { FileRests source.old source.new }
+        ⊎ IsJustifiedSince T.continues T.failures T.failed target e.0 e.1) }
+    ensures left { MatchResult result (PublishesNothing T.honest T.continues target)
+        (λ e. PublishesNothing T.honest T.continues target e.0) }
+    ensures only_reads { OnlyReadsFile source.old source.new }
 {
     let mut target = target;
     match recounted_pool(alloc, source) {
@@ -82,18 +82,19 @@ fn recounted_pool<F: ReadMedium>(
     alloc: Global,
     file: &mut CompoundFile<F>,
 ) -> Result<Vec<u8>, Error>
-    ensures told { (tree : Tree) (P : Packed) → FileHolds file.old tree
-        → may_use (letters_in file.old) ≡ true → Packs (letters_in file.old) tree P
-        → MatchResult result (λ pool. GetsPool (letters_in file.old) tree P pool.items)
-        (IsUnadopted (letters_in file.old) tree P (HasLongText P)) }
-    ensures unopened { (tree : Tree) (expected : Error) → HoldsShown file.old tree
-        → may_use (letters_in file.old) ≡ true
-        → opened (letters_in file.old) tree ≡ Err expected → MatchResult result (λ pool. ⊥)
-        (IsRefusedAs (letters_in file.old) (bytes_in file.old) expected) }
-    ensures rests { FileRests file.old file.new }
-    ensures cause { IfErr result (HasCauseBelow (allocator_of (mini_of file.old))
+    ensures answer { (tree : Tree) (P : PackageContent) → FileHoldsTree file.old tree
+        → keeps_encoded_names (file_case_table file.old) ≡ true
+        → TreePacksPackage (file_case_table file.old) tree P
+        → MatchResult result (λ pool. GetsPool (file_case_table file.old) tree P pool.items)
+        (IsUnadopted (file_case_table file.old) tree P (HasLongText P)) }
+    ensures unopened { (tree : Tree) (expected : Error) → StoreShowsTree file.old tree
+        → keeps_encoded_names (file_case_table file.old) ≡ true
+        → opened (file_case_table file.old) tree ≡ Err expected → MatchResult result (λ pool. ⊥)
+        (IsRefusedAs (file_case_table file.old) (bytes_in file.old) expected) }
+    ensures only_reads { OnlyReadsFile file.old file.new }
+    ensures cause { IfErr result (IsJustifiedBySectors (allocator_of (mini_of file.old))
         (allocator_of (mini_of file.new))) }
-    ensures kinds { IfErr result IsOpeningError }
+    ensures errors { IfErr result IsOpeningError }
 {
     match read_parts(alloc, file) {
         Ok(parts) => recounted_parts(alloc, file, &parts),
@@ -107,15 +108,16 @@ fn recounted_parts<F: ReadMedium>(
     file: &mut CompoundFile<F>,
     parts: &PackageParts,
 ) -> Result<Vec<u8>, Error>
-    ensures told { (tree : Tree) (P : Packed) → FileHolds file.old tree
-        → may_use (letters_in file.old) ≡ true → Packs (letters_in file.old) tree P
-        → AreHeld (letters_in file.old) tree parts.now
-        → MatchResult result (λ pool. GetsPool (letters_in file.old) tree P pool.items)
-        (IsUnadopted (letters_in file.old) tree P (HasLongText P)) }
-    ensures rests { FileRests file.old file.new }
-    ensures cause { IfErr result (HasCauseBelow (allocator_of (mini_of file.old))
+    ensures answer { (tree : Tree) (P : PackageContent) → FileHoldsTree file.old tree
+        → keeps_encoded_names (file_case_table file.old) ≡ true
+        → TreePacksPackage (file_case_table file.old) tree P
+        → ArePartsOfTree (file_case_table file.old) tree parts.now
+        → MatchResult result (λ pool. GetsPool (file_case_table file.old) tree P pool.items)
+        (IsUnadopted (file_case_table file.old) tree P (HasLongText P)) }
+    ensures only_reads { OnlyReadsFile file.old file.new }
+    ensures cause { IfErr result (IsJustifiedBySectors (allocator_of (mini_of file.old))
         (allocator_of (mini_of file.new))) }
-    ensures kinds { IfErr result IsOpeningError }
+    ensures errors { IfErr result IsOpeningError }
 {
     if !parts.gives_back {
         return Err(Error::InvalidData);
@@ -136,7 +138,7 @@ fn recounted_parts<F: ReadMedium>(
 fn stream_of_uses(alloc: Global, parts: &PackageParts, uses: &[u16]) -> Result<Vec<u8>, Error>
     requires size { length uses.now ≡ length parts.now.pool.pool.places }
     requires few { length uses.now < 2 ^ 24 }
-    ensures told { MatchResult result
+    ensures answer { MatchResult result
         (λ pool. AreFreeEmpty (pool_with (listed_uses uses.now) parts.now.pool.pool).places
         × (pool.items ≡ pool_stream (pool_with (listed_uses uses.now) parts.now.pool.pool)))
         (λ e. (e ≡ Memory) ⊎ ((e ≡ InvalidData)

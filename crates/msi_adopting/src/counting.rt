@@ -1,21 +1,21 @@
 //! How many cells use each text.
 ghost use Rattle.std.specs.Prelude.{◌≡◌, ◌⊎◌, ◌-◌, false, true, IfErr, IfOk, MatchResult, length, map};
-ghost use Rattle.cfb.specs.Streams.{FileHolds};
-ghost use Rattle.cfb.specs.Views.{letters_in, mini_of, FileRests};
-ghost use Rattle.cfb_fat.specs.Tables.{HasCauseBelow};
-ghost use Rattle.cfb_medium.specs.Calls.{IsFaultUnless};
+ghost use Rattle.cfb.specs.Streams.{FileHoldsTree};
+ghost use Rattle.cfb.specs.Views.{file_case_table, mini_of, OnlyReadsFile};
+ghost use Rattle.cfb_fat.specs.Tables.{IsJustifiedBySectors};
+ghost use Rattle.cfb_medium.specs.Calls.{IsFaultOrInvalidInputIf};
 ghost use Rattle.cfb_medium.specs.declared.error.Error.TheVariants.{InvalidData, Memory};
 ghost use Rattle.cfb_mini.specs.Views.{allocator_of};
 ghost use Rattle.cfb_tree.specs.Tree.{Tree};
 ghost use Rattle.msi_adopting.specs.Counted.{full_counts, AreUsesAt, CanBeCounted};
-ghost use Rattle.msi_judge.specs.Counting.{TakesRows};
+ghost use Rattle.msi_soundness.specs.Counting.{RefcountsTaken};
 ghost use Rattle.msi_schema.specs.Headings.{headings_in};
 ghost use Rattle.msi_tables.specs.Held.{heading_of};
 
 use cfb::CompoundFile;
 use cfb_medium::{Error, ReadMedium};
-use msi_meaning::take_rows;
 use msi_pool::StringPool;
+use msi_spec::take_rows;
 use msi_store::rows_of_table;
 use msi_tables::Table;
 use std::alloc::Global;
@@ -32,16 +32,17 @@ pub fn uses_of_places<F: ReadMedium>(
     pool: &StringPool,
     tables: &[Rc<Table>],
 ) -> Result<Vec<u16>, Error>
-    ensures told { (tree : Tree) → FileHolds file.old tree → MatchResult result
-        (λ uses. AreUsesAt (letters_in file.old) tree (headings_in tables.now)
-        (length pool.now.pool.places) uses.items) (λ e. IsFaultUnless ⊥ e
-        ⊎ ((e ≡ InvalidData) × (CanBeCounted (letters_in file.old) tree (headings_in tables.now)
+    ensures answer { (tree : Tree) → FileHoldsTree file.old tree → MatchResult result
+        (λ uses. AreUsesAt (file_case_table file.old) tree (headings_in tables.now)
+        (length pool.now.pool.places) uses.items) (λ e. IsFaultOrInvalidInputIf ⊥ e
+        ⊎ ((e ≡ InvalidData)
+        × (CanBeCounted (file_case_table file.old) tree (headings_in tables.now)
         (length pool.now.pool.places) → ⊥))) }
     ensures size { IfOk result (λ uses. length uses.items ≡ length pool.now.pool.places) }
-    ensures rests { FileRests file.old file.new }
-    ensures cause { IfErr result (HasCauseBelow (allocator_of (mini_of file.old))
+    ensures only_reads { OnlyReadsFile file.old file.new }
+    ensures cause { IfErr result (IsJustifiedBySectors (allocator_of (mini_of file.old))
         (allocator_of (mini_of file.new))) }
-    ensures error { IfErr result (λ e. IsFaultUnless ⊥ e ⊎ (e ≡ InvalidData)) }
+    ensures errors { IfErr result (λ e. IsFaultOrInvalidInputIf ⊥ e ⊎ (e ≡ InvalidData)) }
 {
     let mut left = full_counts(alloc, pool.num_strings())?;
     for table in tables {
@@ -57,7 +58,7 @@ pub fn uses_of_places<F: ReadMedium>(
 // The greatest count, so many times. The one error is `Memory`.
 fn full_counts(alloc: Global, count: u32) -> Result<Vec<u16>, Error>
     ensures full { IfOk result (λ left. left.items ≡ full_counts count) }
-    ensures error { IfErr result (λ e. e ≡ Memory) }
+    ensures errors { IfErr result (λ e. e ≡ Memory) }
 {
     Ok(Vec::from_elem(alloc, GREATEST_COUNT, count as usize)?)
 }
@@ -70,14 +71,15 @@ fn take_uses<F: ReadMedium>(
     table: &Table,
     left: &mut [u16],
 ) -> Result<bool, Error>
-    ensures told { (tree : Tree) → FileHolds file.old tree → MatchResult result
-        (TakesRows (letters_in file.old) tree (heading_of table.now) left.old left.new)
-        (λ e. IsFaultUnless ⊥ e ⊎ ((e ≡ InvalidData) × TakesRows (letters_in file.old) tree
+    ensures answer { (tree : Tree) → FileHoldsTree file.old tree → MatchResult result
+        (RefcountsTaken (file_case_table file.old) tree (heading_of table.now) left.old left.new)
+        (λ e. IsFaultOrInvalidInputIf ⊥ e
+        ⊎ ((e ≡ InvalidData) × RefcountsTaken (file_case_table file.old) tree
         (heading_of table.now) left.old left.new false)) }
-    ensures rests { FileRests file.old file.new }
-    ensures cause { IfErr result (HasCauseBelow (allocator_of (mini_of file.old))
+    ensures only_reads { OnlyReadsFile file.old file.new }
+    ensures cause { IfErr result (IsJustifiedBySectors (allocator_of (mini_of file.old))
         (allocator_of (mini_of file.new))) }
-    ensures error { IfErr result (λ e. IsFaultUnless ⊥ e ⊎ (e ≡ InvalidData)) }
+    ensures errors { IfErr result (λ e. IsFaultOrInvalidInputIf ⊥ e ⊎ (e ≡ InvalidData)) }
 {
     match rows_of_table(alloc, file, table) {
         Ok(rows) => Ok(take_rows(left, &rows)),
@@ -88,7 +90,7 @@ fn take_uses<F: ReadMedium>(
 // What was taken from the greatest count at each place. The one error is `Memory`.
 fn uses_taken(alloc: Global, left: &[u16]) -> Result<Vec<u16>, Error>
     ensures taken { IfOk result (λ uses. uses.items ≡ map (λ n. 65535 - n) left.now) }
-    ensures error { IfErr result (λ e. e ≡ Memory) }
+    ensures errors { IfErr result (λ e. e ≡ Memory) }
 {
     let mut uses = Vec::new(alloc);
     for count in left {

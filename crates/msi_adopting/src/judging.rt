@@ -1,19 +1,19 @@
 //! Whether a file holds a sound package.
 ghost use Rattle.std.specs.Prelude.{◌≡◌, ◌↔◌, true, IfErr, IsTrue, MatchResult};
-ghost use Rattle.cfb.specs.Streams.{FileHolds};
-ghost use Rattle.cfb.specs.Views.{letters_in, mini_of, sound_of, FileRests};
-ghost use Rattle.cfb_fat.specs.Tables.{HasCauseBelow};
-ghost use Rattle.cfb_medium.specs.Calls.{IsFaultUnless};
+ghost use Rattle.cfb.specs.Streams.{FileHoldsTree};
+ghost use Rattle.cfb.specs.Views.{file_case_table, mini_of, sound_of, OnlyReadsFile};
+ghost use Rattle.cfb_fat.specs.Tables.{IsJustifiedBySectors};
+ghost use Rattle.cfb_medium.specs.Calls.{IsFaultOrInvalidInputIf};
 ghost use Rattle.cfb_mini.specs.Views.{allocator_of};
 ghost use Rattle.cfb_tree.specs.Tree.{Tree};
-ghost use Rattle.msi_meaning.specs.Opening.{may_use};
-ghost use Rattle.msi_meaning.specs.Package.{Packed, Packs};
+ghost use Rattle.msi_spec.specs.Opening.{keeps_encoded_names};
+ghost use Rattle.msi_spec.specs.Package.{PackageContent, TreePacksPackage};
 ghost use Rattle.msi_parts.specs.Parts.{IsSoundIn};
 ghost use Rattle.msi_stored.specs.Reading.{IsOpeningError};
 
 use cfb::CompoundFile;
 use cfb_medium::{Error, ReadMedium};
-use msi_judge::is_sound_package;
+use msi_soundness::is_sound_package;
 use msi_store::read_parts;
 use std::alloc::Global;
 
@@ -22,14 +22,16 @@ pub(crate) fn holds_sound<F: ReadMedium>(
     alloc: Global,
     file: &mut CompoundFile<F>,
 ) -> Result<bool, Error>
-    ensures told { (tree : Tree) (P : Packed) → FileHolds file.old tree
-        → may_use (letters_in file.old) ≡ true → Packs (letters_in file.old) tree P
+    ensures answer { (tree : Tree) (P : PackageContent) → FileHoldsTree file.old tree
+        → keeps_encoded_names (file_case_table file.old) ≡ true
+        → TreePacksPackage (file_case_table file.old) tree P
         → MatchResult result (λ is. IsTrue is
-        ↔ IsSoundIn (letters_in file.old) tree (sound_of file.old)) (IsFaultUnless ⊥) }
-    ensures rests { FileRests file.old file.new }
-    ensures cause { IfErr result (HasCauseBelow (allocator_of (mini_of file.old))
+        ↔ IsSoundIn (file_case_table file.old) tree (sound_of file.old))
+        (IsFaultOrInvalidInputIf ⊥) }
+    ensures only_reads { OnlyReadsFile file.old file.new }
+    ensures cause { IfErr result (IsJustifiedBySectors (allocator_of (mini_of file.old))
         (allocator_of (mini_of file.new))) }
-    ensures kinds { IfErr result IsOpeningError }
+    ensures errors { IfErr result IsOpeningError }
 {
     match read_parts(alloc, file) {
         Ok(parts) => is_sound_package(alloc, file, &parts),

@@ -6,11 +6,11 @@ use Rattle.cfb_medium.specs.declared.error.Error.{Error}
 use Rattle.cfb_medium.specs.declared.error.Error.TheVariants.{InvalidData, InvalidInput}
 use Rattle.msi_texts.specs.Results.{◌>>=◌, or_refused}
 use Rattle.msi_values.specs.Datum.{Datum, null, number, text, binary}
-use Rattle.msi_pool.specs.Pool.{Pool, at_place, last_place, place_among, used, without_use}
+use Rattle.msi_pool.specs.Pool.{Pool, pool_entry_at, last_place, place_among, used, with_refcount_down}
 use Rattle.msi_pool.specs.declared.stringref.ValueRef.{ValueRef}
 use Rattle.msi_pool.specs.declared.stringref.ValueRef.TheVariants as cell
 use Rattle.msi_pool.specs.Refs.{value_at}
-use Rattle.msi_places.proofs.PoolPlaces.{place_among-pos}
+use Rattle.msi_pool_index.proofs.PoolPlaces.{place_among-pos}
 use Rattle.msi_changes.specs.Laws.{names_place}
 use Rattle.msi_changes.specs.Changes.{counted, taken_back}
 use Rattle.msi_changes.proofs.Kept.{in_use, kept_at, stands_at}
@@ -18,11 +18,11 @@ use Rattle.msi_changes.proofs.PlaceCounts.{count_left, count_used}
 
 -- each place has so many uses
 pub record HasUses (pool : Pool) (uses : ℕ → ℕ) : Type 0 where
-  pub counts : (n : ℕ) → 0 < n → (at_place pool.places n).count ≡ uses n
+  pub counts : (n : ℕ) → 0 < n → (pool_entry_at pool.places n).count ≡ uses n
 
 -- the texts that have such uses stay
 pub record Stays (uses : ℕ → ℕ) (old new : Pool) : Type 0 where
-  pub texts : (n : ℕ) → 0 < n → 0 < uses n → (at_place new.places n).text ≡ (at_place old.places n).text
+  pub texts : (n : ℕ) → 0 < n → 0 < uses n → (pool_entry_at new.places n).text ≡ (pool_entry_at old.places n).text
 
 pub all_stay : (uses : ℕ → ℕ) (p : Pool) → Stays uses p p
 all_stay uses p = record { texts = λ n at some. refl }
@@ -64,10 +64,10 @@ after_ok P Q (Err e) f p next = tt
 index_after : (n : ℕ) → 0 < n → n - 1 + 1 ≡ n
 index_after n at = omega (arith, at)
 
-used_at : (t : List ℕ) (p : Pool) (n : ℕ) → 0 < n → (at_place (used p t).places n).count ≡ cond (place_among t p.places == n) 1 0 + (at_place p.places n).count
+used_at : (t : List ℕ) (p : Pool) (n : ℕ) → 0 < n → (pool_entry_at (used p t).places n).count ≡ cond (place_among t p.places == n) 1 0 + (pool_entry_at p.places n).count
 used_at t p n at = let e = index_after n at in let h = count_used t p.places (n - 1) in let k = rw e at h in omega (arith, k)
 
-in_use_at : (p : Pool) (n : ℕ) → 0 < (at_place p.places n).count → in_use p.places (n - 1) ≡ true
+in_use_at : (p : Pool) (n : ℕ) → 0 < (pool_entry_at p.places n).count → in_use p.places (n - 1) ≡ true
 in_use_at p n some = grind (arith, nat_tests)
 
 above_none : (n : ℕ) → 0 < n → use_of (cell.Str n) 0 ≡ 0
@@ -107,10 +107,10 @@ module _ (others : ℕ → ℕ) (p : Pool) where
   nothing_taken : (v : ValueRef) → ((n : ℕ) → use_of v n ≡ 0) → HasUses p (λ n. use_of v n + others n) → Leaves others p p
   nothing_taken v none h = (record { counts = λ n at. (let z = none n in omega (arith, h.counts n at, z)) }, all_stay others p)
 
-  left_at : (m n : ℕ) → 0 < n → (at_place p.places n).count ≡ cond (suc m == n) 1 0 + others n → (at_place (without_use (suc m) p.places) n).count ≡ others n
+  left_at : (m n : ℕ) → 0 < n → (pool_entry_at p.places n).count ≡ cond (suc m == n) 1 0 + others n → (pool_entry_at (with_refcount_down (suc m) p.places) n).count ≡ others n
   left_at m n at h = grind (arith, nat_tests, (count_left m p.places (n - 1)).0)
 
-  text_taken : (m : ℕ) → HasUses p (λ n. use_of (cell.Str (suc m)) n + others n) → Leaves others p (record p { places = without_use (suc m) p.places })
+  text_taken : (m : ℕ) → HasUses p (λ n. use_of (cell.Str (suc m)) n + others n) → Leaves others p (record p { places = with_refcount_down (suc m) p.places })
   text_taken m h = (
     record { counts = λ n at. left_at m n at (h.counts n at) },
     record { texts = λ n at some. (count_left m p.places (n - 1)).1 (omega (arith, left_at m n at (h.counts n at), some)) },
@@ -120,9 +120,9 @@ module _ (others : ℕ → ℕ) (p : Pool) where
   cell_taken cell.Null placed h = nothing_taken cell.Null (λ n. refl) h
   cell_taken (cell.Int z) placed h = nothing_taken (cell.Int z) (λ n. refl) h
   cell_taken (cell.Str zero) placed h = absurd (omega (arith, placed))
-  cell_taken (cell.Str (suc m)) placed h = on ((at_place p.places (suc m)).count == 0)
+  cell_taken (cell.Str (suc m)) placed h = on ((pool_entry_at p.places (suc m)).count == 0)
     where
-      on : (b : Bool) → IfOk (if b then Err InvalidData else Ok (record p { places = without_use (suc m) p.places })) (Leaves others p)
+      on : (b : Bool) → IfOk (if b then Err InvalidData else Ok (record p { places = with_refcount_down (suc m) p.places })) (Leaves others p)
       on true = tt
       on false = text_taken m h
   cell_taken cell.Binary placed h = nothing_taken cell.Binary (λ n. refl) h

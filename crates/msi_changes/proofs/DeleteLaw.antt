@@ -14,7 +14,7 @@ use Rattle.msi_pool.specs.Pool.{Pool}
 use Rattle.msi_tables.specs.Rows.{Row}
 use Rattle.msi_tables.specs.Table.{Table, are_distinct, has_key, key_cmp, key_values, keys_of, row_data}
 use Rattle.msi_expr.specs.Formula.{Formula}
-use Rattle.msi_changes.specs.Laws.{AreUses, KeepsUses, LeavesRows}
+use Rattle.msi_changes.specs.Laws.{RefcountsMatchRows, KeepsUses, LeavesRows}
 use Rattle.msi_changes.specs.Changes.{all_taken_back, deleted}
 use Rattle.msi_expr.specs.Conditions.{knows_condition, matches}
 use Rattle.msi_changes.proofs.CellUses.{HasUses, IsPlaced, Leaves, fewer_stay, same_uses, use_of}
@@ -60,7 +60,7 @@ module _ (kept : Row → Bool) (key : Row → List Datum) where
 
 -- ---- the law
 
-module _ (may : Bool) (pool : Pool) (t : Table) (condition : Option Formula) (others : ℕ → ℕ) (uses : AreUses t.columns others pool t.rows) where
+module _ (may : Bool) (pool : Pool) (t : Table) (condition : Option Formula) (others : ℕ → ℕ) (uses : RefcountsMatchRows t.columns others pool t.rows) where
   abbrev gone : Row → Bool
   gone row = matches pool t.columns condition row
 

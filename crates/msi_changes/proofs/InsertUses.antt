@@ -12,7 +12,7 @@ use Rattle.msi_pool.specs.Pool.{Pool}
 use Rattle.msi_columns.specs.Column.{Column, are_valid, is_valid}
 use Rattle.msi_tables.specs.Rows.{Row, max_rows}
 use Rattle.msi_tables.specs.Table.{Table, are_distinct, key_values, keys_of}
-use Rattle.msi_changes.specs.Laws.{AreUses, KeepsUses}
+use Rattle.msi_changes.specs.Laws.{RefcountsMatchRows, KeepsUses}
 use Rattle.msi_changes.specs.Changes.{inserted, new_keys, rows_counted}
 use Rattle.msi_changes.proofs.CellUses.{fewer_stay, same_uses}
 use Rattle.std.proofs.lemmas.Bool.{and_parts}
@@ -32,7 +32,7 @@ valid_lengths columns (ds ∷ rs) valid =
     let are = and_parts (are_valid columns ds) (list_all (are_valid columns) rs) valid in
     All-cons (λ ds. length ds ≡ length columns) ds rs (valid_length columns ds are.0) (valid_lengths columns rs are.1)
 
-module _ (may : Bool) (pool : Pool) (t : Table) (new_rows : List (List Datum)) (others : ℕ → ℕ) (uses : AreUses t.columns others pool t.rows) where
+module _ (may : Bool) (pool : Pool) (t : Table) (new_rows : List (List Datum)) (others : ℕ → ℕ) (uses : RefcountsMatchRows t.columns others pool t.rows) where
   abbrev Before : ℕ → ℕ
   Before n = uses_all row_uses t.rows n + others n
 

@@ -22,7 +22,7 @@ use Rattle.msi_tables.specs.Rows.{Row, max_rows}
 use Rattle.msi_tables.specs.Table.{Table, are_distinct, key_values, keys_of}
 use Rattle.msi_changes.specs.Keys.{HaveSameKeys, keys_said}
 use Rattle.msi_changes.proofs.NewKeys.{stored_same}
-use Rattle.msi_changes.specs.Applied.{IsAccepted}
+use Rattle.msi_changes.specs.Applied.{IsInsertAccepted}
 use Rattle.msi_changes.specs.Changes.{inserted, new_keys, rows_counted}
 
 module _ (pool : Pool) (t : Table) (new_rows : List (List Datum)) where
@@ -41,7 +41,7 @@ module _ (pool : Pool) (t : Table) (new_rows : List (List Datum)) where
       → inserted true pool t new_rows ≡ Err InvalidInput
   many v d k m = rw (v, d, k, m) refl
 
-  pub accepted : IsAccepted pool t new_rows → inserted true pool t new_rows ≡ (rows_counted pool new_rows >>= λ r. Ok (t.rows ++ r.0, r.1))
+  pub accepted : IsInsertAccepted pool t new_rows → inserted true pool t new_rows ≡ (rows_counted pool new_rows >>= λ r. Ok (t.rows ++ r.0, r.1))
   accepted a = rw (a.valid, a.distinct, a.new, a.few) refl
 
 -- the tests, made on rows as they are kept

@@ -9,9 +9,9 @@ use Rattle.std.proofs.Math.Bool.{or-false}
 use Rattle.std.specs.declared.alloc.Global.{Global}
 use Rattle.cfb_medium.specs.declared.error.Error.{Error}
 use Rattle.cfb_medium.specs.declared.error.Error.TheVariants.{AlreadyExists, InvalidData, InvalidInput}
-use Rattle.msi_texts.specs.Results.{◌>>=◌, Answers, or_refused, unless_not}
+use Rattle.msi_texts.specs.Results.{◌>>=◌, ReturnsOrOutOfMemory, or_refused, unless_not}
 use Rattle.msi_values.specs.Datum.{Datum, null, number, text, binary}
-use Rattle.msi_pool.specs.Pool.{Pool, at_place, last_place, place_among, used, without_use}
+use Rattle.msi_pool.specs.Pool.{Pool, pool_entry_at, last_place, place_among, used, with_refcount_down}
 use Rattle.msi_pool.proofs.PoolStays.{taken_stay_empty, used_stay_empty}
 use Rattle.msi_pool.specs.declared.stringref.ValueRef.{ValueRef}
 use Rattle.msi_pool.specs.declared.stringref.ValueRef.TheVariants as cell
@@ -20,7 +20,7 @@ use Rattle.msi_columns.specs.Column.{Column, are_valid, column_place, is_binary,
 use Rattle.msi_columns.specs.declared.column.ColumnType.{ColumnType}
 use Rattle.msi_columns.specs.declared.column.ColumnType.TheVariants as kind
 use Rattle.msi_tables.specs.Held.{rows_held}
-use Rattle.msi_tables.specs.Rows.{AreWritable, Row, can_write, kinds_of, max_rows}
+use Rattle.msi_tables.specs.Rows.{AreRowsWritable, Row, can_write, kinds_of, max_rows}
 use Rattle.msi_tables.specs.Table.{Table, are_distinct, key_values, keys_of}
 use Rattle.msi_expr.specs.Formula.{Formula}
 use Rattle.msi_expr.specs.Conditions.{knows_condition, matches}
@@ -93,9 +93,9 @@ value_counted c p (text t) = on (nat_le (place_among t p.places) (last_place p.l
 value_counted c p binary = record { writes = λ valid. binary_writes p.long c.kind valid; keeps = same_pool p }
 
 value_taken : (p : Pool) (v : ValueRef) → IfOk (taken_back p v) (KeepsPlaces p)
-value_taken p (cell.Str n) = on ((at_place p.places n).count == 0)
+value_taken p (cell.Str n) = on ((pool_entry_at p.places n).count == 0)
   where
-    on : (b : Bool) → IfOk (if b then Err InvalidData else Ok (record p { places = without_use n p.places })) (KeepsPlaces p)
+    on : (b : Bool) → IfOk (if b then Err InvalidData else Ok (record p { places = with_refcount_down n p.places })) (KeepsPlaces p)
     on true = tt
     on false = record { page = refl; long = refl; empty = taken_stay_empty n p.places }
 value_taken p cell.Null = same_pool p
@@ -147,10 +147,10 @@ each_valid p [] all = λ k d within. absurd (omega (arith, within))
 each_valid p (x ∷ xs) all = let are = and_parts (p x) (list_all p xs) all in All-cons (λ x. p x ≡ true) x xs are.0 (each_valid p xs are.1)
 
 -- rows that can be written, one by one
-pub each_fits : (long : Bool) (columns : List Column) (rows : List Row) → AreWritable long columns rows → All (Fits long columns) rows
+pub each_fits : (long : Bool) (columns : List Column) (rows : List Row) → AreRowsWritable long columns rows → All (Fits long columns) rows
 each_fits long columns rows are = λ k d within. record { cells = are.cells k d within; numbers = are.numbers k d within }
 
-pub all_writable : (long : Bool) (columns : List Column) (rows : List Row) → All (Fits long columns) rows → AreWritable long columns rows
+pub all_writable : (long : Bool) (columns : List Column) (rows : List Row) → All (Fits long columns) rows → AreRowsWritable long columns rows
 all_writable long columns rows are = record { cells = λ k d within. (are k d within).cells; numbers = λ k d within. (are k d within).numbers }
 
 -- ---- inserts
@@ -301,14 +301,14 @@ module _ (may : Bool) (pool : Pool) (t : Table) (sets : List (List ℕ × Datum)
   abbrev marked : List (Row × Bool)
   marked = map (λ row. (row, matches pool t.columns condition row)) t.rows
 
-  marked_fit : AreWritable pool.long t.columns t.rows → All (λ r. Fits pool.long t.columns r.0) marked
+  marked_fit : AreRowsWritable pool.long t.columns t.rows → All (λ r. Fits pool.long t.columns r.0) marked
   marked_fit old = All-map (λ r. Fits pool.long t.columns r.0) (λ row. (row, matches pool t.columns condition row)) t.rows (each_fits pool.long t.columns t.rows old)
 
-  update_leaves : (v k d : Bool) (c : Result (List Row × Pool) Error) → IfOk c (Keeps pool) → (v ≡ true → AreWritable pool.long t.columns t.rows → IfOk c (Leaves (All (Fits pool.long t.columns)) pool))
+  update_leaves : (v k d : Bool) (c : Result (List Row × Pool) Error) → IfOk c (Keeps pool) → (v ≡ true → AreRowsWritable pool.long t.columns t.rows → IfOk c (Leaves (All (Fits pool.long t.columns)) pool))
       → IfOk (unless_not (v && k && may) InvalidInput >>= λ _. unless_not d AlreadyExists >>= λ _. c) (KeepsShape pool t)
   update_leaves v k d c keeps go = on v refl k may d c keeps go
     where
-      on : (a : Bool) → v ≡ a → (k m d : Bool) (c : Result (List Row × Pool) Error) → IfOk c (Keeps pool) → (v ≡ true → AreWritable pool.long t.columns t.rows → IfOk c (Leaves (All (Fits pool.long t.columns)) pool))
+      on : (a : Bool) → v ≡ a → (k m d : Bool) (c : Result (List Row × Pool) Error) → IfOk c (Keeps pool) → (v ≡ true → AreRowsWritable pool.long t.columns t.rows → IfOk c (Leaves (All (Fits pool.long t.columns)) pool))
           → IfOk (unless_not (a && k && m) InvalidInput >>= λ _. unless_not d AlreadyExists >>= λ _. c) (KeepsShape pool t)
       on false is k m d c keeps go = tt
       on true is false m d c keeps go = tt
@@ -326,7 +326,7 @@ module _ (may : Bool) (pool : Pool) (t : Table) (sets : List (List ℕ × Datum)
 -- ---- what is answered
 
 pub shape_told : (state : PoolState) (t : Table) (before : List Row) (r : Result (Vec (Vec ValueRef Global) Global × PoolChanges) Error) (expected : Result (List Row × Pool) Error)
-    → Answers (λ r. (before ++ rows_held r.0.items, pool_after state r.1)) r expected
-    → IfOk expected (KeepsShape state.pool t) → AreWritable state.pool.long t.columns t.rows → IfOk r (λ r. AreWritable state.pool.long t.columns (before ++ rows_held r.0.items))
+    → ReturnsOrOutOfMemory (λ r. (before ++ rows_held r.0.items, pool_after state r.1)) r expected
+    → IfOk expected (KeepsShape state.pool t) → AreRowsWritable state.pool.long t.columns t.rows → IfOk r (λ r. AreRowsWritable state.pool.long t.columns (before ++ rows_held r.0.items))
 shape_told state t before (Ok r) expected is keeps old = let told : KeepsShape state.pool t (before ++ rows_held r.0.items, pool_after state r.1) = (rw is at keeps) in told.writable old
 shape_told state t before (Err e) expected is keeps old = tt

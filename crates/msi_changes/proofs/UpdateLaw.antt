@@ -15,7 +15,7 @@ use Rattle.msi_tables.specs.Rows.{Row}
 use Rattle.msi_tables.proofs.Searches.{place_below}
 use Rattle.msi_tables.specs.Table.{Table, are_distinct, key_values, keys_of, row_data}
 use Rattle.msi_expr.specs.Formula.{Formula}
-use Rattle.msi_changes.specs.Laws.{AreUses, KeepsUses, SetsCells}
+use Rattle.msi_changes.specs.Laws.{RefcountsMatchRows, KeepsUses, SetsCells}
 use Rattle.msi_changes.specs.Changes.{is_valid_set, keys_after, option_first, rows_set, sets_key, updated, values_after, values_set}
 use Rattle.msi_expr.specs.Conditions.{knows_condition, matches}
 use Rattle.msi_changes.proofs.CellUses.{Gives, same_uses}
@@ -53,7 +53,7 @@ module _ (columns : List Column) where
 
 -- ---- the law
 
-module _ (may : Bool) (pool : Pool) (t : Table) (sets : List (List ℕ × Datum)) (condition : Option Formula) (others : ℕ → ℕ) (uses : AreUses t.columns others pool t.rows) where
+module _ (may : Bool) (pool : Pool) (t : Table) (sets : List (List ℕ × Datum)) (condition : Option Formula) (others : ℕ → ℕ) (uses : RefcountsMatchRows t.columns others pool t.rows) where
   -- a row with whether it matches
   abbrev seen : Row → Row × Bool
   seen row = (row, matches pool t.columns condition row)

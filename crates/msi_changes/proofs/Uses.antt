@@ -3,7 +3,7 @@ use Rattle.std.proofs.Common.{◌≡◌, Bool, true, false, refl, Option, Some, 
 use Rattle.cfb_medium.specs.declared.error.Error.TheVariants.{InvalidData, InvalidInput}
 use Rattle.msi_values.specs.Datum.{Datum, null, number, text, binary}
 use Rattle.msi_texts.specs.Results.{or_refused}
-use Rattle.msi_pool.specs.Pool.{Pool, place, at_place, used, without_use}
+use Rattle.msi_pool.specs.Pool.{Pool, place, pool_entry_at, used, with_refcount_down}
 use Rattle.msi_pool.specs.PoolState.{PoolState}
 use Rattle.msi_pool.specs.Refs.{cell_of, with_value, is_counted, without_value}
 use Rattle.msi_pool.specs.declared.stringref.ValueRef.{ValueRef}
@@ -37,9 +37,9 @@ marked P (text t) e = search rules
 marked P binary e = refl
 
 pub taken_so : (P : PoolState) (v : ValueRef) → is_counted P.pool v ≡ true → taken_back P.pool v ≡ Ok (without_value P v).pool
-taken_so P (cell.Str n) e = known ((at_place P.pool.places n).count == 0) e
+taken_so P (cell.Str n) e = known ((pool_entry_at P.pool.places n).count == 0) e
   where
-    known : (b : Bool) → not b ≡ true → (if b then Err InvalidData else Ok (record P.pool { places = without_use n P.pool.places })) ≡ Ok (without_value P (cell.Str n)).pool
+    known : (b : Bool) → not b ≡ true → (if b then Err InvalidData else Ok (record P.pool { places = with_refcount_down n P.pool.places })) ≡ Ok (without_value P (cell.Str n)).pool
     known false e = refl
     known true e = cc
 taken_so P cell.Null e = refl
@@ -47,9 +47,9 @@ taken_so P (cell.Int z) e = refl
 taken_so P cell.Binary e = refl
 
 pub unused_so : (P : PoolState) (v : ValueRef) → is_counted P.pool v ≡ false → taken_back P.pool v ≡ Err InvalidData
-unused_so P (cell.Str n) e = known ((at_place P.pool.places n).count == 0) e
+unused_so P (cell.Str n) e = known ((pool_entry_at P.pool.places n).count == 0) e
   where
-    known : (b : Bool) → not b ≡ false → (if b then Err InvalidData else Ok (record P.pool { places = without_use n P.pool.places })) ≡ Err InvalidData
+    known : (b : Bool) → not b ≡ false → (if b then Err InvalidData else Ok (record P.pool { places = with_refcount_down n P.pool.places })) ≡ Err InvalidData
     known true e = refl
     known false e = cc
 unused_so P cell.Null e = search rules

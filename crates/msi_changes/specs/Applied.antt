@@ -17,7 +17,7 @@ abbrev pub with_rows : Heading → List Row → Table
 with_rows heading rows = record { name = heading.name; columns = heading.columns; rows = rows }
 
 -- nothing but a full pool stands against an insert
-pub record IsAccepted (pool : Pool) (t : Table) (new_rows : List (List Datum)) : Type 0 where
+pub record IsInsertAccepted (pool : Pool) (t : Table) (new_rows : List (List Datum)) : Type 0 where
   pub valid : list_all (are_valid t.columns) new_rows ≡ true
   pub distinct : are_distinct (keys_of pool t) ≡ true
   pub new : new_keys (keys_of pool t) [] (map (key_values t.columns) new_rows) ≡ Ok tt

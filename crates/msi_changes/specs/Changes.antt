@@ -3,7 +3,7 @@ use Rattle.std.specs.Prelude.{ℕ, Bool, not, ◌&&◌, ◌||◌, List, [], ◌�
 use Rattle.std.specs.List.{list_all, list_any}
 use Rattle.msi_texts.specs.Results.{◌>>=◌, unless_not, or_refused}
 use Rattle.msi_values.specs.Datum.{Datum, null, number, text, binary}
-use Rattle.msi_pool.specs.Pool.{Pool, place, used, without_use, at_place}
+use Rattle.msi_pool.specs.Pool.{Pool, place, used, with_refcount_down, pool_entry_at}
 use Rattle.msi_columns.specs.Column.{Column, are_valid, is_valid, column_place}
 use Rattle.msi_tables.specs.Rows.{Row, max_rows}
 use Rattle.msi_tables.specs.Table.{Table, row_data, key_values, has_key, are_distinct, keys_of}
@@ -38,7 +38,7 @@ rows_counted pool rs = in_turn row_counted pool rs
 
 -- the use of a cell is taken back
 abbrev pub taken_back : Pool → ValueRef → Result Pool Error
-taken_back pool (cell.Str n) = if (at_place pool.places n).count == 0 then Err InvalidData else Ok (record pool { places = without_use n pool.places })
+taken_back pool (cell.Str n) = if (pool_entry_at pool.places n).count == 0 then Err InvalidData else Ok (record pool { places = with_refcount_down n pool.places })
 taken_back pool cell.Null = Ok pool
 taken_back pool (cell.Int z) = Ok pool
 taken_back pool cell.Binary = Ok pool

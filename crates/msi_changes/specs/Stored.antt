@@ -11,13 +11,13 @@ use Rattle.msi_changes.specs.Applied.{with_rows}
 use Rattle.msi_changes.specs.Keys.{HaveSameKeys, keys_said}
 
 -- the heading of a table, its rows, and the pool of their texts
-pub record Stored : Type 0 where
+pub record StoredTable : Type 0 where
   pub heading : Heading
   pub rows : List Row
   pub pool : PoolState
 
 -- the keys of the rows (a step of private functions)
-abbrev pub stored_keys : Stored → List (List Datum)
+abbrev pub stored_keys : StoredTable → List (List Datum)
 stored_keys s = keys_of s.pool.pool (with_rows s.heading s.rows)
 
 -- no key stands twice, and the set has just these; there is none where one stands twice (a step of private functions)

@@ -1,6 +1,6 @@
 //! Uses of texts: values become cells, and cells are taken back.
 ghost use Rattle.std.specs.Prelude.{◌≡◌, false, map};
-ghost use Rattle.msi_texts.specs.Results.{Answers};
+ghost use Rattle.msi_texts.specs.Results.{ReturnsOrOutOfMemory};
 ghost use Rattle.msi_values.specs.Datum.{data_of, datum_of};
 ghost use Rattle.msi_changes.specs.Changes.{all_taken_back, counted, row_counted, rows_counted, taken_back};
 ghost use Rattle.msi_tables.specs.Held.{rows_held};
@@ -17,7 +17,7 @@ pub(crate) fn count_value(
     pool: &mut Draft<'_>,
     value: &Value,
 ) -> Result<ValueRef, Error>
-    ensures counts { Answers (λ cell. (cell, pool.new.state.pool)) result
+    ensures counts { ReturnsOrOutOfMemory (λ cell. (cell, pool.new.state.pool)) result
         (counted pool.old.state.pool (datum_of value.now)) }
     ensures marked { pool.new.state.modified ≡ false → pool.new.state ≡ pool.old.state }
     ensures under { pool.new.under ≡ pool.old.under }
@@ -33,7 +33,7 @@ pub(crate) fn count_row(
     pool: &mut Draft<'_>,
     values: &[Value],
 ) -> Result<Vec<ValueRef>, Error>
-    ensures counts { Answers (λ cells. (cells.items, pool.new.state.pool)) result
+    ensures counts { ReturnsOrOutOfMemory (λ cells. (cells.items, pool.new.state.pool)) result
         (row_counted pool.old.state.pool (data_of values.now)) }
     ensures marked { pool.new.state.modified ≡ false → pool.new.state ≡ pool.old.state }
     ensures under { pool.new.under ≡ pool.old.under }
@@ -52,7 +52,8 @@ pub fn count_rows(
     pool: &mut Draft<'_>,
     rows: &[Vec<Value>],
 ) -> Result<Vec<Vec<ValueRef>>, Error>
-    ensures counts { Answers (λ cells. (rows_held cells.items, pool.new.state.pool)) result
+    ensures counts { ReturnsOrOutOfMemory
+        (λ cells. (rows_held cells.items, pool.new.state.pool)) result
         (rows_counted pool.old.state.pool (map (λ row. data_of row.items) rows.now)) }
     ensures marked { pool.new.state.modified ≡ false → pool.new.state ≡ pool.old.state }
     ensures under { pool.new.under ≡ pool.old.under }
@@ -67,7 +68,7 @@ pub fn count_rows(
 // Takes the use of a cell's text back. `InvalidData` where its place has no use.
 #[tactic(auto, using(crate::proofs::Uses::taken_so, crate::proofs::Uses::unused_so, crate::proofs::Uses::taken_marked))]
 pub(crate) fn take_back_cell(pool: &mut Draft<'_>, cell: ValueRef) -> Result<(), Error>
-    ensures takes { Answers (λ _. pool.new.state.pool) result
+    ensures takes { ReturnsOrOutOfMemory (λ _. pool.new.state.pool) result
         (taken_back pool.old.state.pool cell) }
     ensures marked { pool.new.state.modified ≡ false → pool.new.state ≡ pool.old.state }
     ensures under { pool.new.under ≡ pool.old.under }
@@ -77,7 +78,7 @@ pub(crate) fn take_back_cell(pool: &mut Draft<'_>, cell: ValueRef) -> Result<(),
 
 /// Takes the uses of all cells of a row back. `InvalidData` where a place has no use.
 pub fn take_back(pool: &mut Draft<'_>, row: &[ValueRef]) -> Result<(), Error>
-    ensures takes { Answers (λ _. pool.new.state.pool) result
+    ensures takes { ReturnsOrOutOfMemory (λ _. pool.new.state.pool) result
         (all_taken_back pool.old.state.pool row.now) }
     ensures marked { pool.new.state.modified ≡ false → pool.new.state ≡ pool.old.state }
     ensures under { pool.new.under ≡ pool.old.under }

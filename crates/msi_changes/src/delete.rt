@@ -1,7 +1,7 @@
 //! Deletes.
 ghost use Rattle.std.specs.Prelude.{◌≡◌, false, true, option_map, IfOk, IsTrue, None, Ok, OnErr};
 ghost use Rattle.std.specs.Rc.{rc_value};
-ghost use Rattle.msi_texts.specs.Results.{Answers};
+ghost use Rattle.msi_texts.specs.Results.{ReturnsOrOutOfMemory};
 ghost use Rattle.msi_expr.specs.Formula.{formula_of};
 ghost use Rattle.msi_changes.specs.Applied.{left_of, with_rows};
 ghost use Rattle.msi_changes.specs.Changes.{deleted};
@@ -9,7 +9,7 @@ ghost use Rattle.msi_changes.specs.Prepared.{pool_after, AreChangesFor};
 ghost use Rattle.msi_expr.specs.Conditions.{knows_condition, matches, condition_of, narrowed};
 ghost use Rattle.msi_changes.specs.Said.{delete_condition, delete_name};
 ghost use Rattle.msi_tables.specs.Held.{heading_of, rows_held};
-ghost use Rattle.msi_tables.specs.Rows.{AreWritable};
+ghost use Rattle.msi_tables.specs.Rows.{AreRowsWritable};
 
 use crate::counting::take_back;
 use cfb_medium::Error;
@@ -30,7 +30,7 @@ pub struct Delete {
 impl Delete {
     /// A delete of all rows of the table of this name. `Memory` where there is no room for the name.
     pub fn from(alloc: Global, table_name: &str) -> Result<Delete, Error>
-        ensures name { Answers delete_name result (Ok table_name.now) }
+        ensures name { ReturnsOrOutOfMemory delete_name result (Ok table_name.now) }
         ensures condition { IfOk result (λ delete. delete_condition delete ≡ None) }
     {
         Ok(Delete {
@@ -42,7 +42,7 @@ impl Delete {
     /// The same of the rows alone for which this condition counts as true too. `Memory` spends it.
     pub fn with(self, alloc: Global, condition: Expr) -> Result<Delete, Error>
         ensures name { IfOk result (λ delete. delete_name delete ≡ delete_name self) }
-        ensures condition { Answers delete_condition result
+        ensures condition { ReturnsOrOutOfMemory delete_condition result
             (Ok (narrowed (delete_condition self) (formula_of condition))) }
     {
         let condition = narrowed_condition(alloc, self.condition, condition)?;
@@ -77,13 +77,14 @@ impl Delete {
         rows: Vec<Vec<ValueRef>>,
         pool: &StringPool,
     ) -> Result<(Vec<Vec<ValueRef>>, PoolChanges), Error>
-        ensures deletes { Answers (λ r. (rows_held r.0.items, pool_after pool.now r.1)) result
+        ensures deletes { ReturnsOrOutOfMemory
+            (λ r. (rows_held r.0.items, pool_after pool.now r.1)) result
             (deleted true pool.now.pool (with_rows (heading_of (rc_value table.now))
             (rows_held rows.items)) (delete_condition self.now)) }
         ensures changes { IfOk result (λ r. AreChangesFor pool.now r.1) }
-        ensures shape { AreWritable pool.now.pool.long (heading_of (rc_value table.now)).columns
+        ensures shape { AreRowsWritable pool.now.pool.long (heading_of (rc_value table.now)).columns
             (rows_held rows.items)
-            → IfOk result (λ r. AreWritable pool.now.pool.long
+            → IfOk result (λ r. AreRowsWritable pool.now.pool.long
             (heading_of (rc_value table.now)).columns (rows_held r.0.items)) }
     {
         self.prepared_rows(alloc, table, rows, pool)
@@ -97,15 +98,16 @@ impl Delete {
         rows: Vec<Vec<ValueRef>>,
         pool: &mut StringPool,
     ) -> Result<Vec<Vec<ValueRef>>, Error>
-        ensures deletes { Answers (λ left. (rows_held left.items, pool.new.pool)) result
+        ensures deletes { ReturnsOrOutOfMemory
+            (λ left. (rows_held left.items, pool.new.pool)) result
             (deleted true pool.old.pool (with_rows (heading_of (rc_value table.now))
             (rows_held rows.items)) (delete_condition self.now)) }
-        ensures shape { AreWritable pool.old.pool.long (heading_of (rc_value table.now)).columns
+        ensures shape { AreRowsWritable pool.old.pool.long (heading_of (rc_value table.now)).columns
             (rows_held rows.items)
-            → IfOk result (λ after. AreWritable pool.old.pool.long
+            → IfOk result (λ after. AreRowsWritable pool.old.pool.long
             (heading_of (rc_value table.now)).columns (rows_held after.items)) }
         ensures marked { pool.new.modified ≡ false → pool.new ≡ pool.old }
-        ensures err { OnErr result (pool.new ≡ pool.old) }
+        ensures after_error { OnErr result (pool.new ≡ pool.old) }
     {
         let (rows, changes) = match self.prepare(alloc, table, rows, pool) {
             Err(error) => return Err(error),
@@ -125,7 +127,8 @@ impl Delete {
         rows: Vec<Vec<ValueRef>>,
         pool: &StringPool,
     ) -> Result<(Vec<Vec<ValueRef>>, PoolChanges), Error>
-        ensures deletes { Answers (λ r. (rows_held r.0.items, pool_after pool.now r.1)) result
+        ensures deletes { ReturnsOrOutOfMemory
+            (λ r. (rows_held r.0.items, pool_after pool.now r.1)) result
             (deleted true pool.now.pool (with_rows (heading_of (rc_value table.now))
             (rows_held rows.items)) (delete_condition self.now)) }
         ensures changes { IfOk result (λ r. AreChangesFor pool.now r.1) }
@@ -156,7 +159,8 @@ fn rows_left(
 ) -> Result<Vec<Vec<ValueRef>>, Error>
     requires { IsTrue (knows_condition (heading_of (rc_value table.now)).columns
         (condition_of condition.now)) }
-    ensures left { Answers (λ left. (rows_held left.items, counted.new.state.pool)) result
+    ensures left { ReturnsOrOutOfMemory
+        (λ left. (rows_held left.items, counted.new.state.pool)) result
         (left_of (matches pool.now.pool (heading_of (rc_value table.now)).columns
         (condition_of condition.now)) counted.old.state.pool (rows_held rows.items)) }
     ensures marked { counted.new.state.modified ≡ false → counted.new.state ≡ counted.old.state }

@@ -1,14 +1,14 @@
 //! Inserts.
 ghost use Rattle.cfb_medium.specs.declared.error.Error.TheVariants.{Memory};
 ghost use Rattle.std.specs.Prelude.{◌≡◌, ◌⊎◌, ◌++◌, [], ◌∷◌, false, true, IfErr, IfOk, OnErr, OnOk, Err, Ok, map};
-ghost use Rattle.msi_texts.specs.Results.{Answers};
+ghost use Rattle.msi_texts.specs.Results.{ReturnsOrOutOfMemory};
 ghost use Rattle.msi_values.specs.Datum.{data_of};
-ghost use Rattle.msi_changes.specs.Applied.{with_rows, IsAccepted};
+ghost use Rattle.msi_changes.specs.Applied.{with_rows, IsInsertAccepted};
 ghost use Rattle.msi_changes.specs.Prepared.{pool_after, AreChangesFor};
 ghost use Rattle.msi_changes.specs.Changes.{inserted};
 ghost use Rattle.msi_changes.specs.Said.{insert_name, insert_rows};
 ghost use Rattle.msi_tables.specs.Held.{heading_of, rows_held};
-ghost use Rattle.msi_tables.specs.Rows.{AreWritable};
+ghost use Rattle.msi_tables.specs.Rows.{AreRowsWritable};
 
 use crate::counting::count_rows;
 use crate::keys::{check_new_keys, keys_of_values};
@@ -35,7 +35,7 @@ pub struct Insert {
 impl Insert {
     /// An insert of no rows into the table of this name. `Memory` where there is no room for the name.
     pub fn into(alloc: Global, table_name: &str) -> Result<Insert, Error>
-        ensures name { Answers insert_name result (Ok table_name.now) }
+        ensures name { ReturnsOrOutOfMemory insert_name result (Ok table_name.now) }
         ensures rows { IfOk result (λ insert. insert_rows insert ≡ []) }
     {
         Ok(Insert {
@@ -47,7 +47,7 @@ impl Insert {
     /// The same with one more row behind the others. `Memory` spends it.
     pub fn row(self, values: Vec<Value>) -> Result<Insert, Error>
         ensures name { IfOk result (λ insert. insert_name insert ≡ insert_name self) }
-        ensures rows { Answers insert_rows result
+        ensures rows { ReturnsOrOutOfMemory insert_rows result
             (Ok (insert_rows self ++ data_of values.items ∷ [])) }
     {
         let Insert {
@@ -64,7 +64,7 @@ impl Insert {
     /// The same with these rows behind the others. `Memory` spends it.
     pub fn rows(self, rows: Vec<Vec<Value>>) -> Result<Insert, Error>
         ensures name { IfOk result (λ insert. insert_name insert ≡ insert_name self) }
-        ensures rows { Answers insert_rows result
+        ensures rows { ReturnsOrOutOfMemory insert_rows result
             (Ok (insert_rows self ++ map (λ row. data_of row.items) rows.items)) }
     {
         let Insert {
@@ -103,14 +103,14 @@ impl Insert {
         alloc: Global,
         stored: &StoredRows<'a>,
     ) -> Result<(Vec<Vec<ValueRef>>, PoolChanges), Error>
-        ensures inserts { Answers
+        ensures inserts { ReturnsOrOutOfMemory
             (λ r. (stored.now.rows ++ rows_held r.0.items, pool_after stored.now.pool r.1)) result
             (inserted true stored.now.pool.pool (with_rows stored.now.heading stored.now.rows)
             (insert_rows self.now)) }
         ensures changes { IfOk result (λ r. AreChangesFor stored.now.pool r.1) }
-        ensures shape { AreWritable stored.now.pool.pool.long stored.now.heading.columns
+        ensures shape { AreRowsWritable stored.now.pool.pool.long stored.now.heading.columns
             stored.now.rows
-            → IfOk result (λ r. AreWritable stored.now.pool.pool.long
+            → IfOk result (λ r. AreRowsWritable stored.now.pool.pool.long
             stored.now.heading.columns (stored.now.rows ++ rows_held r.0.items)) }
     {
         self.prepared_rows(alloc, stored)
@@ -125,15 +125,16 @@ impl Insert {
         rows: Vec<Vec<ValueRef>>,
         pool: &mut StringPool,
     ) -> Result<Vec<Vec<ValueRef>>, Error>
-        ensures inserts { Answers (λ all. (rows_held all.items, pool.new.pool)) result
+        ensures inserts { ReturnsOrOutOfMemory (λ all. (rows_held all.items, pool.new.pool)) result
             (inserted true pool.old.pool (with_rows (heading_of table.now) (rows_held rows.items))
             (insert_rows self.now)) }
-        ensures shape { AreWritable pool.old.pool.long (heading_of table.now).columns
+        ensures shape { AreRowsWritable pool.old.pool.long (heading_of table.now).columns
             (rows_held rows.items)
-            → IfOk result (λ after. AreWritable pool.old.pool.long (heading_of table.now).columns
+            → IfOk result
+            (λ after. AreRowsWritable pool.old.pool.long (heading_of table.now).columns
             (rows_held after.items)) }
         ensures marked { pool.new.modified ≡ false → pool.new ≡ pool.old }
-        ensures err { OnErr result (pool.new ≡ pool.old) }
+        ensures after_error { OnErr result (pool.new ≡ pool.old) }
     {
         let stored = StoredRows::new(alloc, table, rows, pool)?;
         let (new_rows, changes) = match self.prepare(alloc, &stored) {
@@ -153,7 +154,7 @@ impl Insert {
         alloc: Global,
         stored: &StoredRows<'a>,
     ) -> Result<(Vec<Vec<ValueRef>>, PoolChanges), Error>
-        ensures inserts { Answers
+        ensures inserts { ReturnsOrOutOfMemory
             (λ r. (stored.now.rows ++ rows_held r.0.items, pool_after stored.now.pool r.1)) result
             (inserted true stored.now.pool.pool (with_rows stored.now.heading stored.now.rows)
             (insert_rows self.now)) }
@@ -179,10 +180,10 @@ fn judge<'a>(
     stored: &StoredRows<'a>,
     new_rows: &'a [Vec<Value>],
 ) -> Result<(), Error>
-    ensures accepted { OnOk result (IsAccepted stored.now.pool.pool
+    ensures accepted { OnOk result (IsInsertAccepted stored.now.pool.pool
         (with_rows stored.now.heading stored.now.rows)
         (map (λ row. data_of row.items) new_rows.now)) }
-    ensures refused { IfErr result (λ e. (e ≡ Memory)
+    ensures refused_only_if { IfErr result (λ e. (e ≡ Memory)
         ⊎ (inserted true stored.now.pool.pool (with_rows stored.now.heading stored.now.rows)
         (map (λ row. data_of row.items) new_rows.now) ≡ Err e)) }
 {

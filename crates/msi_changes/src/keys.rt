@@ -24,7 +24,7 @@ pub(crate) fn key_of<'a>(
 ) -> Result<Vec<BorrowedValue<'a>>, Error>
     ensures ok { IfOk result (λ key. borrowed_data key.items
         ≡ key_values (columns_of columns.now) (borrowed_data values.now)) }
-    ensures err { IfErr result (λ e. e ≡ Memory) }
+    ensures errors { IfErr result (λ e. e ≡ Memory) }
 {
     let mut key = Vec::new(alloc);
     add_key_of(columns, values, &mut key)?;
@@ -40,7 +40,7 @@ fn add_key_of<'a>(
     ensures ok { OnOk result (borrowed_data key.new.items
         ≡ borrowed_data key.old.items ++ key_values (columns_of columns.now)
         (borrowed_data values.now)) }
-    ensures err { IfErr result (λ e. e ≡ Memory) }
+    ensures errors { IfErr result (λ e. e ≡ Memory) }
 {
     match columns {
         [] => Ok(()),
@@ -64,7 +64,7 @@ pub(crate) fn values_of<'a>(
 ) -> Result<Vec<BorrowedValue<'a>>, Error>
     ensures ok { IfOk result (λ values. borrowed_data values.items
         ≡ row_data pool.now.pool row.now) }
-    ensures err { IfErr result (λ e. e ≡ Memory) }
+    ensures errors { IfErr result (λ e. e ≡ Memory) }
 {
     let mut values = Vec::new(alloc);
     for cell in row {
@@ -76,7 +76,7 @@ pub(crate) fn values_of<'a>(
 // The values of a row of values. The one error is `Memory`.
 fn borrowed_row<'a>(alloc: Global, row: &'a [Value]) -> Result<Vec<BorrowedValue<'a>>, Error>
     ensures ok { IfOk result (λ values. borrowed_data values.items ≡ data_of row.now) }
-    ensures err { IfErr result (λ e. e ≡ Memory) }
+    ensures errors { IfErr result (λ e. e ≡ Memory) }
 {
     let mut values = Vec::new(alloc);
     for value in row {
@@ -95,7 +95,7 @@ pub(crate) fn keys_of<'a>(
     ensures ok { IfOk result (λ keys. keys_said keys.items
         ≡ map (λ row. key_values (columns_of columns.now) (row_data pool.now.pool row))
         (rows_held rows.now)) }
-    ensures err { IfErr result (λ e. e ≡ Memory) }
+    ensures errors { IfErr result (λ e. e ≡ Memory) }
 {
     let mut keys = Vec::new(alloc);
     for row in rows {
@@ -113,7 +113,7 @@ pub(crate) fn keys_of_values<'a>(
 ) -> Result<Vec<Vec<BorrowedValue<'a>>>, Error>
     ensures ok { IfOk result (λ keys. keys_said keys.items
         ≡ map (key_values (columns_of columns.now)) (map (λ row. data_of row.items) rows.now)) }
-    ensures err { IfErr result (λ e. e ≡ Memory) }
+    ensures errors { IfErr result (λ e. e ≡ Memory) }
 {
     let mut keys = Vec::new(alloc);
     for row in rows {
@@ -132,7 +132,7 @@ pub(crate) fn key_set<'a>(
         (are_distinct (keys_said keys.entry.items) ≡ false)
         (λ set. (are_distinct (keys_said keys.entry.items) ≡ true)
         × HaveSameKeys (keys_said keys.entry.items) (keys_said set.keys))) }
-    ensures err { IfErr result (λ e. e ≡ Memory) }
+    ensures errors { IfErr result (λ e. e ≡ Memory) }
 {
     let mut set = BTreeSet::new(alloc);
     for key in keys {
@@ -151,7 +151,7 @@ pub(crate) fn check_new_keys<'a>(
 ) -> Result<(), Error>
     ensures ok { OnOk result (new_keys (keys_said stored.now.keys) [] (keys_said new.entry.items)
         ≡ Ok tt) }
-    ensures err { IfErr result (λ e. (e ≡ Memory)
+    ensures errors { IfErr result (λ e. (e ≡ Memory)
         ⊎ (new_keys (keys_said stored.now.keys) [] (keys_said new.entry.items) ≡ Err e)) }
 {
     let mut earlier = BTreeSet::new(alloc);

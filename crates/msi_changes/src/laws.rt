@@ -3,7 +3,7 @@ ghost use Rattle.cfb_medium.specs.declared.error.Error.TheVariants.{InvalidInput
 ghost use Rattle.msi_expr.specs.Formula.{Formula};
 ghost use Rattle.msi_values.specs.Datum.{Datum};
 ghost use Rattle.msi_pool.specs.Pool.{Pool};
-ghost use Rattle.msi_changes.specs.Laws.{AddsRows, RowsAreCounted, AreUses, KeepsShape, KeepsUses, LeavesRows, SetsCells, StoredAlike};
+ghost use Rattle.msi_changes.specs.Laws.{AddsRows, RowsAreCounted, RefcountsMatchRows, KeepsShape, KeepsUses, LeavesRows, SetsCells, StoredAlike};
 ghost use Rattle.msi_changes.specs.Changes.{deleted, inserted, updated};
 ghost use Rattle.msi_columns.specs.Column.{Column};
 ghost use Rattle.msi_tables.specs.Rows.{IsStored, Row};
@@ -15,7 +15,8 @@ ghost use Rattle.std.specs.Prelude.{◌≡◌, Bool, Err, IfOk, List, MatchResul
 #[tactic(auto, using(crate::proofs::InsertLaw::adds_rows))]
 pub fn inserts_add_their_rows()
     ensures { (may : Bool) (pool : Pool) (t : Table) (new_rows : List (List Datum))
-        → RowsAreCounted pool t.rows → IfOk (inserted may pool t new_rows) (AddsRows pool t new_rows) }
+        → RowsAreCounted pool t.rows
+        → IfOk (inserted may pool t new_rows) (AddsRows pool t new_rows) }
 {}
 
 /// An update that is accepted sets exactly its cells, and keys are distinct after it where they were before it or a column of the
@@ -24,7 +25,8 @@ pub fn inserts_add_their_rows()
 #[tactic(auto, using(crate::proofs::UpdateLaw::sets_cells))]
 pub fn updates_keep_keys_distinct()
     ensures { (may : Bool) (pool : Pool) (t : Table) (sets : List (List ℕ × Datum))
-        (condition : Option Formula) (others : ℕ → ℕ) → AreUses t.columns others pool t.rows
+        (condition : Option Formula) (others : ℕ → ℕ)
+        → RefcountsMatchRows t.columns others pool t.rows
         → IfOk (updated may pool t sets condition) (λ after. SetsCells pool t sets condition after
         × KeepsUses pool t.columns others after) }
 {}
@@ -33,7 +35,7 @@ pub fn updates_keep_keys_distinct()
 #[tactic(auto, using(crate::proofs::DeleteLaw::leaves_rows))]
 pub fn deletes_leave_the_other_rows()
     ensures { (may : Bool) (pool : Pool) (t : Table) (condition : Option Formula) (others : ℕ → ℕ)
-        → AreUses t.columns others pool t.rows
+        → RefcountsMatchRows t.columns others pool t.rows
         → IfOk (deleted may pool t condition) (λ after. LeavesRows pool t condition after
         × KeepsUses pool t.columns others after) }
 {}
@@ -43,10 +45,10 @@ pub fn deletes_leave_the_other_rows()
 #[tactic(auto, using(crate::proofs::InsertUses::keeps_uses))]
 pub fn inserts_count_their_texts()
     ensures kept { (may : Bool) (pool : Pool) (t : Table) (new_rows : List (List Datum))
-        (others : ℕ → ℕ) → AreUses t.columns others pool t.rows
+        (others : ℕ → ℕ) → RefcountsMatchRows t.columns others pool t.rows
         → IfOk (inserted may pool t new_rows) (KeepsUses pool t.columns others) }
     ensures counted { (columns : List Column) (others : ℕ → ℕ) (pool : Pool) (rows : List Row)
-        → AreUses columns others pool rows → RowsAreCounted pool rows }
+        → RefcountsMatchRows columns others pool rows → RowsAreCounted pool rows }
 {}
 
 /// The order in which rows are stored, after an update or delete and after an insert, changes neither which keys stand twice nor

@@ -4,7 +4,7 @@ ghost use Rattle.msi_changes.specs.Changes.{cell_set, cells_set, is_valid_set, o
 ghost use Rattle.msi_changes.specs.Said.{set_of, sets_of};
 ghost use Rattle.msi_columns.specs.Column.{column_place};
 ghost use Rattle.msi_tables.specs.Held.{heading_of};
-ghost use Rattle.msi_texts.specs.Results.{Answers};
+ghost use Rattle.msi_texts.specs.Results.{ReturnsOrOutOfMemory};
 ghost use Rattle.std.specs.List.{list_all, list_any};
 ghost use Rattle.std.specs.Prelude.{◌≡◌, false, slice_set, string_bytes};
 
@@ -94,7 +94,7 @@ fn set_cell(
     row: &mut Vec<ValueRef>,
     set: &(String, Value),
 ) -> Result<(), Error>
-    ensures sets { Answers (λ _. (row.new.items, pool.new.state.pool)) result
+    ensures sets { ReturnsOrOutOfMemory (λ _. (row.new.items, pool.new.state.pool)) result
         (cell_set (heading_of table.now).columns pool.old.state.pool
         row.old.items (set_of set.now)) }
     ensures marked { pool.new.state.modified ≡ false → pool.new.state ≡ pool.old.state }
@@ -122,7 +122,7 @@ pub(crate) fn set_cells(
     row: &mut Vec<ValueRef>,
     sets: &[(String, Value)],
 ) -> Result<(), Error>
-    ensures sets { Answers (λ _. (row.new.items, pool.new.state.pool)) result
+    ensures sets { ReturnsOrOutOfMemory (λ _. (row.new.items, pool.new.state.pool)) result
         (cells_set (heading_of table.now).columns pool.old.state.pool
         row.old.items (sets_of sets.now)) }
     ensures marked { pool.new.state.modified ≡ false → pool.new.state ≡ pool.old.state }

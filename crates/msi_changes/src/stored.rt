@@ -28,11 +28,11 @@ pub struct StoredRows<'a> {
 
 impl<'a> Model for StoredRows<'a> {
     ghost use Rattle.msi_changes.specs.Applied.{with_rows};
-    ghost use Rattle.msi_changes.specs.Stored.{AreOrdered, Stored};
+    ghost use Rattle.msi_changes.specs.Stored.{AreOrdered, StoredTable};
     ghost use Rattle.msi_tables.specs.Held.{heading_of, rows_held};
     ghost use Rattle.msi_tables.specs.Table.{keys_of};
 
-    ghost Value = { Stored };
+    ghost Value = { StoredTable };
 
     ghost view = { λ s. record { heading = heading_of s.table.now; rows = rows_held s.rows.items; pool = s.pool.now } };
 
@@ -54,7 +54,7 @@ impl<'a> StoredRows<'a> {
               rows = rows_held rows.items;
               pool = pool.now;
             }) }
-        ensures err { IfErr result (λ e. e ≡ Memory) }
+        ensures errors { IfErr result (λ e. e ≡ Memory) }
     {
         let listed = keys_of(alloc, pool, table.columns(), &rows)?;
         let keys = key_set(alloc, listed)?;
@@ -100,7 +100,7 @@ impl<'a> StoredRows<'a> {
     pub fn with(self, new_rows: Vec<Vec<ValueRef>>) -> Result<Vec<Vec<ValueRef>>, Error>
         ensures ok { IfOk result (λ all. rows_held all.items
             ≡ self.entry.rows ++ rows_held new_rows.items) }
-        ensures err { IfErr result (λ e. e ≡ Memory) }
+        ensures errors { IfErr result (λ e. e ≡ Memory) }
     {
         let (mut rows, mut new_rows) = (self.rows, new_rows);
         rows.append(&mut new_rows)?;

@@ -2,7 +2,7 @@
 ghost use Rattle.cfb_medium.specs.declared.error.Error.TheVariants.{Memory};
 ghost use Rattle.std.specs.Prelude.{◌≡◌, ◌⊎◌, ◌++◌, [], ◌∷◌, false, true, map, option_map, Err, IfErr, IfOk, IsTrue, None, Ok, OnErr, OnOk};
 ghost use Rattle.std.specs.Rc.{rc_value};
-ghost use Rattle.msi_texts.specs.Results.{Answers};
+ghost use Rattle.msi_texts.specs.Results.{ReturnsOrOutOfMemory};
 ghost use Rattle.msi_values.specs.Borrowed.{borrowed_data};
 ghost use Rattle.msi_values.specs.Datum.{datum_of};
 ghost use Rattle.msi_expr.specs.Formula.{formula_of};
@@ -13,7 +13,7 @@ ghost use Rattle.msi_changes.specs.Prepared.{pool_after, AreChangesFor};
 ghost use Rattle.msi_expr.specs.Conditions.{knows_condition, matches, condition_of, narrowed};
 ghost use Rattle.msi_changes.specs.Said.{sets_of, update_condition, update_name, update_sets};
 ghost use Rattle.msi_tables.specs.Held.{heading_of, rows_held};
-ghost use Rattle.msi_tables.specs.Rows.{AreWritable};
+ghost use Rattle.msi_tables.specs.Rows.{AreRowsWritable};
 
 use crate::keys::{key_of, key_set, values_of};
 use crate::printing::fmt_sets;
@@ -38,7 +38,7 @@ pub struct Update {
 impl Update {
     /// An update of no column, in all rows of the table of this name. `Memory` where there is no room for the name.
     pub fn table(alloc: Global, table_name: &str) -> Result<Update, Error>
-        ensures name { Answers update_name result (Ok table_name.now) }
+        ensures name { ReturnsOrOutOfMemory update_name result (Ok table_name.now) }
         ensures sets { IfOk result (λ update. update_sets update ≡ []) }
         ensures condition { IfOk result (λ update. update_condition update ≡ None) }
     {
@@ -52,7 +52,7 @@ impl Update {
     /// The same with a new value for this column too, behind the others. `Memory` spends it.
     pub fn set(self, alloc: Global, column_name: &str, value: Value) -> Result<Update, Error>
         ensures name { IfOk result (λ update. update_name update ≡ update_name self) }
-        ensures sets { Answers update_sets result
+        ensures sets { ReturnsOrOutOfMemory update_sets result
             (Ok (update_sets self ++ (column_name.now, datum_of value) ∷ [])) }
         ensures condition { IfOk result (λ update. update_condition update
             ≡ update_condition self) }
@@ -74,7 +74,7 @@ impl Update {
     pub fn with(self, alloc: Global, condition: Expr) -> Result<Update, Error>
         ensures name { IfOk result (λ update. update_name update ≡ update_name self) }
         ensures sets { IfOk result (λ update. update_sets update ≡ update_sets self) }
-        ensures condition { Answers update_condition result
+        ensures condition { ReturnsOrOutOfMemory update_condition result
             (Ok (narrowed (update_condition self) (formula_of condition))) }
     {
         let condition = narrowed_condition(alloc, self.condition, condition)?;
@@ -119,13 +119,14 @@ impl Update {
         rows: Vec<Vec<ValueRef>>,
         pool: &StringPool,
     ) -> Result<(Vec<Vec<ValueRef>>, PoolChanges), Error>
-        ensures updates { Answers (λ r. (rows_held r.0.items, pool_after pool.now r.1)) result
+        ensures updates { ReturnsOrOutOfMemory
+            (λ r. (rows_held r.0.items, pool_after pool.now r.1)) result
             (updated true pool.now.pool (with_rows (heading_of (rc_value table.now))
             (rows_held rows.items)) (update_sets self.now) (update_condition self.now)) }
         ensures changes { IfOk result (λ r. AreChangesFor pool.now r.1) }
-        ensures shape { AreWritable pool.now.pool.long (heading_of (rc_value table.now)).columns
+        ensures shape { AreRowsWritable pool.now.pool.long (heading_of (rc_value table.now)).columns
             (rows_held rows.items)
-            → IfOk result (λ r. AreWritable pool.now.pool.long
+            → IfOk result (λ r. AreRowsWritable pool.now.pool.long
             (heading_of (rc_value table.now)).columns (rows_held r.0.items)) }
     {
         self.prepared_rows(alloc, table, rows, pool)
@@ -139,15 +140,16 @@ impl Update {
         rows: Vec<Vec<ValueRef>>,
         pool: &mut StringPool,
     ) -> Result<Vec<Vec<ValueRef>>, Error>
-        ensures updates { Answers (λ after. (rows_held after.items, pool.new.pool)) result
+        ensures updates { ReturnsOrOutOfMemory
+            (λ after. (rows_held after.items, pool.new.pool)) result
             (updated true pool.old.pool (with_rows (heading_of (rc_value table.now))
             (rows_held rows.items)) (update_sets self.now) (update_condition self.now)) }
-        ensures shape { AreWritable pool.old.pool.long (heading_of (rc_value table.now)).columns
+        ensures shape { AreRowsWritable pool.old.pool.long (heading_of (rc_value table.now)).columns
             (rows_held rows.items)
-            → IfOk result (λ after. AreWritable pool.old.pool.long
+            → IfOk result (λ after. AreRowsWritable pool.old.pool.long
             (heading_of (rc_value table.now)).columns (rows_held after.items)) }
         ensures marked { pool.new.modified ≡ false → pool.new ≡ pool.old }
-        ensures err { OnErr result (pool.new ≡ pool.old) }
+        ensures after_error { OnErr result (pool.new ≡ pool.old) }
     {
         let (rows, changes) = match self.prepare(alloc, table, rows, pool) {
             Err(error) => return Err(error),
@@ -167,7 +169,8 @@ impl Update {
         rows: Vec<Vec<ValueRef>>,
         pool: &StringPool,
     ) -> Result<(Vec<Vec<ValueRef>>, PoolChanges), Error>
-        ensures updates { Answers (λ r. (rows_held r.0.items, pool_after pool.now r.1)) result
+        ensures updates { ReturnsOrOutOfMemory
+            (λ r. (rows_held r.0.items, pool_after pool.now r.1)) result
             (updated true pool.now.pool (with_rows (heading_of (rc_value table.now))
             (rows_held rows.items)) (update_sets self.now) (update_condition self.now)) }
         ensures changes { IfOk result (λ r. AreChangesFor pool.now r.1) }
@@ -200,7 +203,7 @@ fn judge(
     ensures accepted { OnOk result (MaySet pool.now.pool
         (with_rows (heading_of (rc_value table.now)) (rows_held rows.now)) (sets_of sets.now)
         (condition_of condition.now)) }
-    ensures refused { IfErr result (λ e. (e ≡ Memory)
+    ensures refused_only_if { IfErr result (λ e. (e ≡ Memory)
         ⊎ (updated true pool.now.pool (with_rows (heading_of (rc_value table.now))
         (rows_held rows.now)) (sets_of sets.now) (condition_of condition.now) ≡ Err e)) }
 {
@@ -235,7 +238,7 @@ fn keys_after<'a>(
     ensures ok { IfOk result (λ keys. keys_said keys.items
         ≡ keys_after pool.now.pool (with_rows (heading_of (rc_value table.now))
         (rows_held rows.now)) (sets_of sets.now) (condition_of condition.now)) }
-    ensures err { IfErr result (λ e. e ≡ Memory) }
+    ensures errors { IfErr result (λ e. e ≡ Memory) }
 {
     let mut keys = Vec::new(alloc);
     for row in rows {
@@ -258,7 +261,7 @@ fn key_after<'a>(
     ensures ok { IfOk result (λ key. borrowed_data key.items
         ≡ key_after pool.now.pool (heading_of (rc_value table.now)).columns (sets_of sets.now)
         (condition_of condition.now) row.now) }
-    ensures err { IfErr result (λ e. e ≡ Memory) }
+    ensures errors { IfErr result (λ e. e ≡ Memory) }
 {
     let mut values = values_of(alloc, pool, row)?;
     if matches(alloc, pool, table, condition, row)? {
@@ -279,7 +282,8 @@ fn set_rows(
 ) -> Result<Vec<Vec<ValueRef>>, Error>
     requires { IsTrue (knows_condition (heading_of (rc_value table.now)).columns
         (condition_of condition.now)) }
-    ensures sets { Answers (λ after. (rows_held after.items, counted.new.state.pool)) result
+    ensures sets { ReturnsOrOutOfMemory
+        (λ after. (rows_held after.items, counted.new.state.pool)) result
         (rows_set (heading_of (rc_value table.now)).columns
         counted.old.state.pool (sets_of sets.now)
         (judged (matches pool.now.pool (heading_of (rc_value table.now)).columns

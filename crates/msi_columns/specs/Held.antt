@@ -33,5 +33,5 @@ unfoldable pub built : ColumnBuilder → ColumnType → Column
 built b kind = record (column_of b.column) { kind = kind }
 
 -- a builder makes what another made, changed so, whatever the type
-abbrev pub Builds : ColumnBuilder → (Column → Column) → ColumnBuilder → Type 0
-Builds new changed old = (kind : ColumnType) → built new kind ≡ changed (built old kind)
+abbrev pub BuildsColumn : ColumnBuilder → (Column → Column) → ColumnBuilder → Type 0
+BuildsColumn new changed old = (kind : ColumnType) → built new kind ≡ changed (built old kind)

@@ -7,7 +7,7 @@ ghost use Rattle.msi_texts.specs.declared.category.Category.TheVariants as categ
 ghost use Rattle.msi_columns.specs.declared.column.ColumnType.{ColumnType};
 ghost use Rattle.msi_columns.specs.declared.column.ColumnType.TheVariants as kind;
 ghost use Rattle.msi_columns.specs.Column.{with_bits, as_key, as_localizable, but_null, refers_to, of_category, from_to, one_of};
-ghost use Rattle.msi_columns.specs.Held.{column_of, built, Builds};
+ghost use Rattle.msi_columns.specs.Held.{column_of, built, BuildsColumn};
 ghost use Rattle.cfb_medium.specs.declared.error.Error.TheVariants.{InvalidData, Memory};
 
 use crate::column::has_bit;
@@ -25,7 +25,7 @@ pub struct ColumnBuilder {
 impl ColumnBuilder {
     /// The same column, whose values can be localized.
     pub fn localizable(self) -> ColumnBuilder
-        ensures { Builds result as_localizable self }
+        ensures { BuildsColumn result as_localizable self }
     {
         ColumnBuilder {
             column: Column {
@@ -37,7 +37,7 @@ impl ColumnBuilder {
 
     /// The same column, which takes null.
     pub fn nullable(self) -> ColumnBuilder
-        ensures { Builds result but_null self }
+        ensures { BuildsColumn result but_null self }
     {
         ColumnBuilder {
             column: self.column.but_nullable(),
@@ -46,7 +46,7 @@ impl ColumnBuilder {
 
     /// The same column, which belongs to the key.
     pub fn primary_key(self) -> ColumnBuilder
-        ensures { Builds result as_key self }
+        ensures { BuildsColumn result as_key self }
     {
         ColumnBuilder {
             column: Column {
@@ -58,7 +58,7 @@ impl ColumnBuilder {
 
     /// The same column, whose numbers go from one to another.
     pub fn range(self, min: i32, max: i32) -> ColumnBuilder
-        ensures { Builds result (from_to min max) self }
+        ensures { BuildsColumn result (from_to min max) self }
     {
         ColumnBuilder {
             column: Column {
@@ -75,9 +75,10 @@ impl ColumnBuilder {
         table_name: &str,
         column_index: i32,
     ) -> Result<ColumnBuilder, Error>
-        ensures ok { IfOk result (λ builder. Builds builder (refers_to table_name.now column_index)
+        ensures ok { IfOk result
+            (λ builder. BuildsColumn builder (refers_to table_name.now column_index)
             self) }
-        ensures err { IfErr result (λ e. e ≡ Memory) }
+        ensures errors { IfErr result (λ e. e ≡ Memory) }
     {
         let table_name = String::from_str(alloc, table_name)?;
         let column = Column {
@@ -89,7 +90,7 @@ impl ColumnBuilder {
 
     /// The same column, whose texts are of a category.
     pub fn category(self, category: Category) -> ColumnBuilder
-        ensures { Builds result (of_category category) self }
+        ensures { BuildsColumn result (of_category category) self }
     {
         ColumnBuilder {
             column: Column {
@@ -101,9 +102,9 @@ impl ColumnBuilder {
 
     /// The same column, which takes these texts alone; with no text it takes all.
     pub fn enum_values(self, alloc: Global, values: &[&str]) -> Result<ColumnBuilder, Error>
-        ensures ok { IfOk result (λ builder. Builds builder
+        ensures ok { IfOk result (λ builder. BuildsColumn builder
             (one_of (map (λ value. value.now) values.now)) self) }
-        ensures err { IfErr result (λ e. e ≡ Memory) }
+        ensures errors { IfErr result (λ e. e ≡ Memory) }
     {
         let mut enum_values = Vec::new(alloc);
         for value in values {

@@ -31,7 +31,7 @@ impl ColumnType {
             bytes.old.now))) }
         ensures rest { OnOk result (bytes.new.now
             ≡ drop (width_of long_string_refs self.now) bytes.old.now) }
-        ensures err { IfErr result (λ e. e ≡ UnexpectedEof) }
+        ensures errors { IfErr result (λ e. e ≡ UnexpectedEof) }
         ensures unchanged { OnErr result (bytes.new.now ≡ bytes.old.now) }
     {
         let width = self.width(long_string_refs) as usize;
@@ -112,10 +112,10 @@ impl ColumnType {
     ) -> Result<(), Error>
         ensures ok { OnOk result (AppendsCell out.old.items out.new.items long_string_refs self.now
             value) }
-        ensures refused { IsErrOf result InvalidInput
+        ensures refused_only_if { IsErrOf result InvalidInput
             ↔ (cell_number long_string_refs self.now value ≡ None) }
-        ensures kinds { IfErr result IsInvalidInputOrMemory }
-        ensures err { OnErr result (out.new.items ≡ out.old.items) }
+        ensures errors { IfErr result IsInvalidInputOrMemory }
+        ensures after_error { OnErr result (out.new.items ≡ out.old.items) }
     {
         let Some(number) = self.number_of(value, long_string_refs) else {
             return Err(Error::InvalidInput);

@@ -15,7 +15,7 @@ use std::alloc::Global;
 pub fn heading_lines(alloc: Global, table: &Table) -> Result<Vec<String>, Error>
     ensures ok { IfOk result (λ lines. map string_bytes lines.items
         ≡ exported_heading (heading_of table.now)) }
-    ensures err { IfErr result (λ e. e ≡ Memory) }
+    ensures errors { IfErr result (λ e. e ≡ Memory) }
 {
     let names = names_line(alloc, table.columns())?;
     let types = types_line(alloc, table.columns())?;
@@ -28,7 +28,7 @@ pub fn heading_lines(alloc: Global, table: &Table) -> Result<Vec<String>, Error>
 fn names_line(alloc: Global, columns: &[Column]) -> Result<String, Error>
     ensures ok { IfOk result (λ line. string_bytes line
         ≡ join_with_byte 9 (map (λ c. c.name) (columns_of columns.now))) }
-    ensures err { IfErr result (λ e. e ≡ Memory) }
+    ensures errors { IfErr result (λ e. e ≡ Memory) }
 {
     let mut line = String::new(alloc);
     let mut is_first = true;
@@ -44,7 +44,7 @@ fn names_line(alloc: Global, columns: &[Column]) -> Result<String, Error>
 fn types_line(alloc: Global, columns: &[Column]) -> Result<String, Error>
     ensures ok { IfOk result (λ line. string_bytes line
         ≡ join_with_byte 9 (map exported_type (columns_of columns.now))) }
-    ensures err { IfErr result (λ e. e ≡ Memory) }
+    ensures errors { IfErr result (λ e. e ≡ Memory) }
 {
     let mut line = String::new(alloc);
     let mut is_first = true;
@@ -60,7 +60,7 @@ fn types_line(alloc: Global, columns: &[Column]) -> Result<String, Error>
 fn keys_line(alloc: Global, name: &str, columns: &[Column]) -> Result<String, Error>
     ensures ok { IfOk result (λ line. string_bytes line ≡ join_with_byte 9 (name.now
         ∷ map (λ c. c.name) (filter (λ c. c.key) (columns_of columns.now)))) }
-    ensures err { IfErr result (λ e. e ≡ Memory) }
+    ensures errors { IfErr result (λ e. e ≡ Memory) }
 {
     let mut line = String::from_str(alloc, name)?;
     for column in columns {
@@ -75,7 +75,7 @@ fn keys_line(alloc: Global, name: &str, columns: &[Column]) -> Result<String, Er
 fn push_part(line: &mut String, is_first: bool, part: &str) -> Result<(), Error>
     ensures ok { OnOk result (string_bytes line.new ≡ string_bytes line.old
         ++ (if is_first then part.now else 9 ∷ part.now)) }
-    ensures err { IfErr result (λ e. e ≡ Memory) }
+    ensures errors { IfErr result (λ e. e ≡ Memory) }
 {
     if !is_first {
         line.push('\t')?;
@@ -87,7 +87,7 @@ fn push_part(line: &mut String, is_first: bool, part: &str) -> Result<(), Error>
 // The type as exports write it: a letter, in capitals where the column may be null, and the width.
 fn type_text(alloc: Global, column: &Column) -> Result<String, Error>
     ensures ok { IfOk result (λ text. string_bytes text ≡ exported_type (column_of column.now)) }
-    ensures err { IfErr result (λ e. e ≡ Memory) }
+    ensures errors { IfErr result (λ e. e ≡ Memory) }
 {
     let letter = letter_of(column);
     let letter = if column.is_nullable() {

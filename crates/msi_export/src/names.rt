@@ -2,7 +2,7 @@
 ghost use Rattle.std.specs.Prelude.{◌≡◌, ◌≤◌, ◌++◌, ◌∷◌, [], ◌==◌, length, take, true, string_bytes, IfErr, IfOk, Ok, OnOk};
 ghost use Rattle.cfb_medium.specs.declared.error.Error.TheVariants.{Memory};
 ghost use Rattle.std.specs.List.{AllPass};
-ghost use Rattle.msi_texts.specs.Results.{Answers};
+ghost use Rattle.msi_texts.specs.Results.{ReturnsOrOutOfMemory};
 ghost use Rattle.msi_export.specs.FileNames.{file_name, is_plain, is_safe, numbered_name, written};
 
 use cfb_medium::Error;
@@ -16,7 +16,7 @@ const LONGEST: usize = 200;
 /// different names have different files, and none leads out of a folder (`different_names_have_different_files`,
 /// `files_stay_in_their_folder`). The one error is `Memory`.
 pub fn safe_name(alloc: Global, name: &str) -> Result<String, Error>
-    ensures { Answers string_bytes result (Ok (file_name true name.now)) }
+    ensures { ReturnsOrOutOfMemory string_bytes result (Ok (file_name true name.now)) }
 {
     let mut safe = String::new(alloc);
     for byte in name.as_bytes() {
@@ -29,7 +29,7 @@ pub fn safe_name(alloc: Global, name: &str) -> Result<String, Error>
 /// the number that is given. So names of different numbers have different files (`numbered_names_have_different_files`). The one error is
 /// `Memory`.
 pub fn file_name_of(alloc: Global, name: &str, number: u64) -> Result<String, Error>
-    ensures { Answers string_bytes result (Ok (numbered_name number name.now)) }
+    ensures { ReturnsOrOutOfMemory string_bytes result (Ok (numbered_name number name.now)) }
 {
     let safe = safe_name(alloc, name)?;
     if safe.len() <= LONGEST {
@@ -44,7 +44,7 @@ fn start_of(alloc: Global, safe: &str) -> Result<String, Error>
     requires long { 200 ≤ length safe.now }
     requires safe { AllPass is_safe safe.now }
     ensures ok { IfOk result (λ start. string_bytes start ≡ take 200 safe.now) }
-    ensures err { IfErr result (λ e. e ≡ Memory) }
+    ensures errors { IfErr result (λ e. e ≡ Memory) }
 {
     let mut start = String::new(alloc);
     for byte in &safe.as_bytes()[..LONGEST] {
@@ -57,7 +57,7 @@ fn start_of(alloc: Global, safe: &str) -> Result<String, Error>
 fn push_safe(start: &mut String, byte: u8) -> Result<(), Error>
     requires { is_safe byte ≡ true }
     ensures ok { OnOk result (string_bytes start.new ≡ string_bytes start.old ++ byte ∷ []) }
-    ensures err { IfErr result (λ e. e ≡ Memory) }
+    ensures errors { IfErr result (λ e. e ≡ Memory) }
 {
     start.push(char::from(byte))?;
     Ok(())
@@ -67,7 +67,7 @@ fn push_safe(start: &mut String, byte: u8) -> Result<(), Error>
 fn push_byte(alloc: Global, safe: &mut String, byte: u8) -> Result<(), Error>
     ensures ok { OnOk result (string_bytes safe.new ≡ string_bytes safe.old
         ++ written (length (string_bytes safe.old) == 0) byte) }
-    ensures err { IfErr result (λ e. e ≡ Memory) }
+    ensures errors { IfErr result (λ e. e ≡ Memory) }
 {
     if is_plain(byte) || byte == b'.' && !safe.is_empty() {
         safe.push(char::from(byte))?;

@@ -4,9 +4,9 @@ use Rattle.std.specs.Prelude.{◌&&◌, bytes_eq, slice_index_or, is_some, optio
 use Rattle.msi_values.specs.Datum.{Datum, null, counts_as_true}
 use Rattle.msi_columns.specs.Column.{Column, has_column, column_place}
 use Rattle.msi_tables.specs.Row.{cell_named, named_cells}
-use Rattle.msi_expr.specs.Formula.{Formula, literal, column, unary, two, both, either, worth, has_columns, or_null}
+use Rattle.msi_expr.specs.Formula.{Formula, literal, column, unary, two, both, either, value_of_formula, has_columns, or_null}
 use Rattle.msi_tables.proofs.Searches.{position_cons}
-use Rattle.msi_expr.specs.Conditions.{knows, filled_up}
+use Rattle.msi_expr.specs.Conditions.{has_named_columns, filled_up}
 
 pub filled_length : (n : ℕ) (ds : List Datum) → length (filled_up n ds) ≡ n
 filled_length zero ds = refl
@@ -32,7 +32,7 @@ named_same name (c ∷ cs) (d ∷ ds) = go (named_same name cs ds) (bytes_eq c.n
     go ih true = refl
     go ih false = ih
 
-pub worth_same : (columns : List Column) (ds : List Datum) (f : Formula) → worth (named_cells columns (filled_up (length columns) ds)) f ≡ worth (named_cells columns ds) f
+pub worth_same : (columns : List Column) (ds : List Datum) (f : Formula) → value_of_formula (named_cells columns (filled_up (length columns) ds)) f ≡ value_of_formula (named_cells columns ds) f
 worth_same columns ds (literal d) = refl
 worth_same columns ds (column name) = named_same name columns ds
 worth_same columns ds (unary o a) = rw (worth_same columns ds a) refl
@@ -54,7 +54,7 @@ there name (c ∷ cs) (d ∷ ds) same = rw (position_cons (λ c. bytes_eq c.name
     go ih true = refl
     go ih false = ih ∙ sym (later (column_place cs name))
 
-pub known_there : (columns : List Column) (ds : List Datum) (f : Formula) → length ds ≡ length columns → has_columns (named_cells columns ds) f ≡ knows columns f
+pub known_there : (columns : List Column) (ds : List Datum) (f : Formula) → length ds ≡ length columns → has_columns (named_cells columns ds) f ≡ has_named_columns columns f
 known_there columns ds (literal d) same = refl
 known_there columns ds (column name) same = there name columns ds same
 known_there columns ds (unary o a) same = known_there columns ds a same
@@ -63,7 +63,7 @@ known_there columns ds (both a b) same = ap₂ (λ x y. x && y) (known_there col
 known_there columns ds (either a b) same = ap₂ (λ x y. x && y) (known_there columns ds a same) (known_there columns ds b same)
 
 -- each column that is known is there
-pub all_there : (columns : List Column) (ds : List Datum) (f : Formula) → has_columns (named_cells columns (filled_up (length columns) ds)) f ≡ knows columns f
+pub all_there : (columns : List Column) (ds : List Datum) (f : Formula) → has_columns (named_cells columns (filled_up (length columns) ds)) f ≡ has_named_columns columns f
 all_there columns ds f = known_there columns (filled_up (length columns) ds) f (filled_length (length columns) ds)
 
 -- the value of a column stands at its place; where there is none, null does
@@ -91,6 +91,6 @@ named_place (c ∷ cs) (d ∷ ds) name = rw (position_cons (λ c. bytes_eq c.nam
         later (Some i) = refl
 
 -- what a row is worth, filled up
-pub seen_whole : (columns : List Column) (ds : List Datum) (f : Formula) (d : Datum) → d ≡ worth (named_cells columns (filled_up (length columns) ds)) f →
-    counts_as_true d ≡ counts_as_true (worth (named_cells columns ds) f)
+pub seen_whole : (columns : List Column) (ds : List Datum) (f : Formula) (d : Datum) → d ≡ value_of_formula (named_cells columns (filled_up (length columns) ds)) f →
+    counts_as_true d ≡ counts_as_true (value_of_formula (named_cells columns ds) f)
 seen_whole columns ds f d is = ap counts_as_true (is ∙ worth_same columns ds f)

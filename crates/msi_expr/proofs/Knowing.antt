@@ -6,7 +6,7 @@ use Rattle.std.proofs.lemmas.List.Folds.{list_all-append, list_all-map}
 use Rattle.std.proofs.lemmas.Slice.Eq.{bytes_eq-Decides}
 use Rattle.msi_columns.specs.Column.{Column, has_column}
 use Rattle.msi_expr.specs.Formula.{Formula, literal, column, unary, two, both, either, names_after, noted}
-use Rattle.msi_expr.specs.Conditions.{knows}
+use Rattle.msi_expr.specs.Conditions.{has_named_columns}
 
 and_assoc : (a b c : Bool) → ((a && b) && c) ≡ (a && (b && c))
 and_assoc true b c = refl
@@ -40,17 +40,17 @@ joined : (p : List (List ℕ) → Bool) (after : List (List ℕ) → List (List 
     p (after names) ≡ (p names && first) → (all : Bool) → all ≡ (p (after names) && more) → all ≡ (p names && (first && more))
 joined p after names first more one all is = is ∙ ap (λ x. x && more) one ∙ and_assoc (p names) first more
 
-names_after_known : (columns : List Column) (names : List (List ℕ)) (f : Formula) → list_all (has_column columns) (names_after names f) ≡ (list_all (has_column columns) names && knows columns f)
+names_after_known : (columns : List Column) (names : List (List ℕ)) (f : Formula) → list_all (has_column columns) (names_after names f) ≡ (list_all (has_column columns) names && has_named_columns columns f)
 names_after_known columns names (literal d) = sym (and_true (list_all (has_column columns) names))
 names_after_known columns names (column name) = all_noted (has_column columns) names name
 names_after_known columns names (unary o a) = names_after_known columns names a
 names_after_known columns names (two o a b) =
-    joined (list_all (has_column columns)) (λ ns. names_after ns a) names (knows columns a) (knows columns b) (names_after_known columns names a) _ (names_after_known columns (names_after names a) b)
+    joined (list_all (has_column columns)) (λ ns. names_after ns a) names (has_named_columns columns a) (has_named_columns columns b) (names_after_known columns names a) _ (names_after_known columns (names_after names a) b)
 names_after_known columns names (both a b) =
-    joined (list_all (has_column columns)) (λ ns. names_after ns a) names (knows columns a) (knows columns b) (names_after_known columns names a) _ (names_after_known columns (names_after names a) b)
+    joined (list_all (has_column columns)) (λ ns. names_after ns a) names (has_named_columns columns a) (has_named_columns columns b) (names_after_known columns names a) _ (names_after_known columns (names_after names a) b)
 names_after_known columns names (either a b) =
-    joined (list_all (has_column columns)) (λ ns. names_after ns a) names (knows columns a) (knows columns b) (names_after_known columns names a) _ (names_after_known columns (names_after names a) b)
+    joined (list_all (has_column columns)) (λ ns. names_after ns a) names (has_named_columns columns a) (has_named_columns columns b) (names_after_known columns names a) _ (names_after_known columns (names_after names a) b)
 
 pub names_known : (columns : List Column) (names : List (Bor (List ℕ))) (f : Formula) → map (λ n. n.now) names ≡ names_after [] f →
-    list_all (λ n. has_column columns n.now) names ≡ knows columns f
+    list_all (λ n. has_column columns n.now) names ≡ has_named_columns columns f
 names_known columns names f are = sym (list_all-map (has_column columns) (λ n. n.now) names) ∙ ap (list_all (has_column columns)) are ∙ names_after_known columns [] f

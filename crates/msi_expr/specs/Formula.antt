@@ -103,13 +103,13 @@ or_null None = null
 or_null (Some d) = d
 
 -- what an expression is worth on a row
-abbrev pub worth : Cells → Formula → Datum
-worth row (literal d) = d
-worth row (column name) = or_null (cell_named name row)
-worth row (unary o a) = one_applied o (worth row a)
-worth row (two o a b) = two_applied o (worth row a) (worth row b)
-worth row (both a b) = truth (counts_as_true (worth row a) && counts_as_true (worth row b))
-worth row (either a b) = truth (if counts_as_true (worth row a) then true else counts_as_true (worth row b))
+abbrev pub value_of_formula : Cells → Formula → Datum
+value_of_formula row (literal d) = d
+value_of_formula row (column name) = or_null (cell_named name row)
+value_of_formula row (unary o a) = one_applied o (value_of_formula row a)
+value_of_formula row (two o a b) = two_applied o (value_of_formula row a) (value_of_formula row b)
+value_of_formula row (both a b) = truth (counts_as_true (value_of_formula row a) && counts_as_true (value_of_formula row b))
+value_of_formula row (either a b) = truth (if counts_as_true (value_of_formula row a) then true else counts_as_true (value_of_formula row b))
 
 -- the row has each column that is named
 abbrev pub has_columns : Cells → Formula → Bool

@@ -3,9 +3,9 @@ ghost use Rattle.std.specs.Prelude.{◌≡◌, Some, IsTrue, Ok, OnOk, map, byte
 ghost use Rattle.std.specs.Fmt.{DisplaysOnOk};
 ghost use Rattle.std.specs.Option.{option_copied};
 ghost use Rattle.std.specs.List.{list_any};
-ghost use Rattle.msi_texts.specs.Results.{Answers};
+ghost use Rattle.msi_texts.specs.Results.{ReturnsOrOutOfMemory};
 ghost use Rattle.msi_values.specs.Datum.{datum_of};
-ghost use Rattle.msi_expr.specs.Formula.{ast_formula, bracket, column_name, equated_in, worth, has_columns, names_after, noted, shown};
+ghost use Rattle.msi_expr.specs.Formula.{ast_formula, bracket, column_name, equated_in, value_of_formula, has_columns, names_after, noted, shown};
 ghost use Rattle.msi_expr.specs.Worths.{worth_said};
 
 use crate::operators::{BinOp, UnOp};
@@ -34,7 +34,8 @@ impl Ast {
         row: &'a R,
     ) -> Result<Worth<'a>, Error>
         requires { IsTrue (has_columns (R.cells row.now) (ast_formula self.now)) }
-        ensures { Answers worth_said result (Ok (worth (R.cells row.now) (ast_formula self.now))) }
+        ensures { ReturnsOrOutOfMemory worth_said result
+            (Ok (value_of_formula (R.cells row.now) (ast_formula self.now))) }
     {
         match self {
             Ast::Literal(value) => Ok(Worth::Borrowed(value.as_borrowed())),

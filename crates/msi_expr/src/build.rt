@@ -1,7 +1,7 @@
 //! How expressions are built. An operator on literals alone is applied at once, but for `and` and `or`. `Memory` comes where there is
 //! no memory; what a call was given is then gone.
 ghost use Rattle.std.specs.Prelude.{◌≡◌, Ok};
-ghost use Rattle.msi_texts.specs.Results.{Answers};
+ghost use Rattle.msi_texts.specs.Results.{ReturnsOrOutOfMemory};
 ghost use Rattle.msi_values.specs.Datum.{null, number, text, truth};
 ghost use Rattle.msi_expr.specs.Formula.{formula_of, literal, column, both, either, built, built_of_two};
 
@@ -15,7 +15,7 @@ use std::alloc::Global;
 impl Expr {
     /// The value of the first column of a name.
     pub fn col(alloc: Global, column_name: &str) -> Result<Expr, Error>
-        ensures { Answers formula_of result (Ok (column column_name.now)) }
+        ensures { ReturnsOrOutOfMemory formula_of result (Ok (column column_name.now)) }
     {
         let name = String::from_str(alloc, column_name)?;
         Ok(Expr {
@@ -52,7 +52,7 @@ impl Expr {
 
     /// A text.
     pub fn string(alloc: Global, string: &str) -> Result<Expr, Error>
-        ensures { Answers formula_of result (Ok (literal (text string.now))) }
+        ensures { ReturnsOrOutOfMemory formula_of result (Ok (literal (text string.now))) }
     {
         let value = Value::Str(String::from_str(alloc, string)?);
         Ok(Expr {
@@ -62,7 +62,7 @@ impl Expr {
 
     /// 1 where both are equal, else 0.
     pub fn eq(self, alloc: Global, rhs: Expr) -> Result<Expr, Error>
-        ensures { Answers formula_of result (Ok
+        ensures { ReturnsOrOutOfMemory formula_of result (Ok
             (built_of_two BinOp.Eq (formula_of self) (formula_of rhs))) }
     {
         self.beside(alloc, BinOp::Eq, rhs)
@@ -70,7 +70,7 @@ impl Expr {
 
     /// 1 where they differ, else 0.
     pub fn ne(self, alloc: Global, rhs: Expr) -> Result<Expr, Error>
-        ensures { Answers formula_of result (Ok
+        ensures { ReturnsOrOutOfMemory formula_of result (Ok
             (built_of_two BinOp.Ne (formula_of self) (formula_of rhs))) }
     {
         self.beside(alloc, BinOp::Ne, rhs)
@@ -78,7 +78,7 @@ impl Expr {
 
     /// 1 where this is less, else 0.
     pub fn lt(self, alloc: Global, rhs: Expr) -> Result<Expr, Error>
-        ensures { Answers formula_of result (Ok
+        ensures { ReturnsOrOutOfMemory formula_of result (Ok
             (built_of_two BinOp.Lt (formula_of self) (formula_of rhs))) }
     {
         self.beside(alloc, BinOp::Lt, rhs)
@@ -86,7 +86,7 @@ impl Expr {
 
     /// 1 where this is less or equal, else 0.
     pub fn le(self, alloc: Global, rhs: Expr) -> Result<Expr, Error>
-        ensures { Answers formula_of result (Ok
+        ensures { ReturnsOrOutOfMemory formula_of result (Ok
             (built_of_two BinOp.Le (formula_of self) (formula_of rhs))) }
     {
         self.beside(alloc, BinOp::Le, rhs)
@@ -94,7 +94,7 @@ impl Expr {
 
     /// 1 where this is greater, else 0.
     pub fn gt(self, alloc: Global, rhs: Expr) -> Result<Expr, Error>
-        ensures { Answers formula_of result (Ok
+        ensures { ReturnsOrOutOfMemory formula_of result (Ok
             (built_of_two BinOp.Gt (formula_of self) (formula_of rhs))) }
     {
         self.beside(alloc, BinOp::Gt, rhs)
@@ -102,7 +102,7 @@ impl Expr {
 
     /// 1 where this is greater or equal, else 0.
     pub fn ge(self, alloc: Global, rhs: Expr) -> Result<Expr, Error>
-        ensures { Answers formula_of result (Ok
+        ensures { ReturnsOrOutOfMemory formula_of result (Ok
             (built_of_two BinOp.Ge (formula_of self) (formula_of rhs))) }
     {
         self.beside(alloc, BinOp::Ge, rhs)
@@ -110,7 +110,7 @@ impl Expr {
 
     /// The sum of two numbers, or two texts joined; null past 32 bits or for other values.
     pub fn add(self, alloc: Global, rhs: Expr) -> Result<Expr, Error>
-        ensures { Answers formula_of result (Ok
+        ensures { ReturnsOrOutOfMemory formula_of result (Ok
             (built_of_two BinOp.Add (formula_of self) (formula_of rhs))) }
     {
         self.beside(alloc, BinOp::Add, rhs)
@@ -118,7 +118,7 @@ impl Expr {
 
     /// The difference of two numbers; null past 32 bits or for other values.
     pub fn sub(self, alloc: Global, rhs: Expr) -> Result<Expr, Error>
-        ensures { Answers formula_of result (Ok
+        ensures { ReturnsOrOutOfMemory formula_of result (Ok
             (built_of_two BinOp.Sub (formula_of self) (formula_of rhs))) }
     {
         self.beside(alloc, BinOp::Sub, rhs)
@@ -126,7 +126,7 @@ impl Expr {
 
     /// The product of two numbers; null past 32 bits or for other values.
     pub fn mul(self, alloc: Global, rhs: Expr) -> Result<Expr, Error>
-        ensures { Answers formula_of result (Ok
+        ensures { ReturnsOrOutOfMemory formula_of result (Ok
             (built_of_two BinOp.Mul (formula_of self) (formula_of rhs))) }
     {
         self.beside(alloc, BinOp::Mul, rhs)
@@ -134,7 +134,7 @@ impl Expr {
 
     /// The quotient of two numbers, cut towards zero; null by zero, past 32 bits or for other values.
     pub fn div(self, alloc: Global, rhs: Expr) -> Result<Expr, Error>
-        ensures { Answers formula_of result (Ok
+        ensures { ReturnsOrOutOfMemory formula_of result (Ok
             (built_of_two BinOp.Div (formula_of self) (formula_of rhs))) }
     {
         self.beside(alloc, BinOp::Div, rhs)
@@ -142,7 +142,7 @@ impl Expr {
 
     /// The bits that both numbers have; null for other values.
     pub fn bitand(self, alloc: Global, rhs: Expr) -> Result<Expr, Error>
-        ensures { Answers formula_of result (Ok
+        ensures { ReturnsOrOutOfMemory formula_of result (Ok
             (built_of_two BinOp.BitAnd (formula_of self) (formula_of rhs))) }
     {
         self.beside(alloc, BinOp::BitAnd, rhs)
@@ -150,7 +150,7 @@ impl Expr {
 
     /// The bits that one of two numbers has; null for other values.
     pub fn bitor(self, alloc: Global, rhs: Expr) -> Result<Expr, Error>
-        ensures { Answers formula_of result (Ok
+        ensures { ReturnsOrOutOfMemory formula_of result (Ok
             (built_of_two BinOp.BitOr (formula_of self) (formula_of rhs))) }
     {
         self.beside(alloc, BinOp::BitOr, rhs)
@@ -158,7 +158,7 @@ impl Expr {
 
     /// The bits that just one of two numbers has; null for other values.
     pub fn bitxor(self, alloc: Global, rhs: Expr) -> Result<Expr, Error>
-        ensures { Answers formula_of result (Ok
+        ensures { ReturnsOrOutOfMemory formula_of result (Ok
             (built_of_two BinOp.BitXor (formula_of self) (formula_of rhs))) }
     {
         self.beside(alloc, BinOp::BitXor, rhs)
@@ -166,7 +166,7 @@ impl Expr {
 
     /// The number shifted to the left, its low 32 bits; null for a count outside 0 to 31 or for other values.
     pub fn shl(self, alloc: Global, rhs: Expr) -> Result<Expr, Error>
-        ensures { Answers formula_of result (Ok
+        ensures { ReturnsOrOutOfMemory formula_of result (Ok
             (built_of_two BinOp.Shl (formula_of self) (formula_of rhs))) }
     {
         self.beside(alloc, BinOp::Shl, rhs)
@@ -174,7 +174,7 @@ impl Expr {
 
     /// The number shifted to the right with its sign kept; null for a count outside 0 to 31 or for other values.
     pub fn shr(self, alloc: Global, rhs: Expr) -> Result<Expr, Error>
-        ensures { Answers formula_of result (Ok
+        ensures { ReturnsOrOutOfMemory formula_of result (Ok
             (built_of_two BinOp.Shr (formula_of self) (formula_of rhs))) }
     {
         self.beside(alloc, BinOp::Shr, rhs)
@@ -182,28 +182,31 @@ impl Expr {
 
     /// The number with the other sign; null past 32 bits or for another value.
     pub fn neg(self, alloc: Global) -> Result<Expr, Error>
-        ensures { Answers formula_of result (Ok (built UnOp.Neg (formula_of self))) }
+        ensures { ReturnsOrOutOfMemory formula_of result (Ok (built UnOp.Neg (formula_of self))) }
     {
         self.under(alloc, UnOp::Neg)
     }
 
     /// The number with all bits turned; null for another value.
     pub fn bitinv(self, alloc: Global) -> Result<Expr, Error>
-        ensures { Answers formula_of result (Ok (built UnOp.BitNot (formula_of self))) }
+        ensures { ReturnsOrOutOfMemory formula_of result
+            (Ok (built UnOp.BitNot (formula_of self))) }
     {
         self.under(alloc, UnOp::BitNot)
     }
 
     /// 1 where the value counts as false (null, 0, the empty text), else 0.
     pub fn not(self, alloc: Global) -> Result<Expr, Error>
-        ensures { Answers formula_of result (Ok (built UnOp.BoolNot (formula_of self))) }
+        ensures { ReturnsOrOutOfMemory formula_of result
+            (Ok (built UnOp.BoolNot (formula_of self))) }
     {
         self.under(alloc, UnOp::BoolNot)
     }
 
     /// 1 where both values count as true, else 0. Literals stay as they are.
     pub fn and(self, alloc: Global, rhs: Expr) -> Result<Expr, Error>
-        ensures { Answers formula_of result (Ok (both (formula_of self) (formula_of rhs))) }
+        ensures { ReturnsOrOutOfMemory formula_of result
+            (Ok (both (formula_of self) (formula_of rhs))) }
     {
         let left = Box::new(alloc, self.ast)?;
         let right = Box::new(alloc, rhs.ast)?;
@@ -214,7 +217,8 @@ impl Expr {
 
     /// 1 where one of the values counts as true, else 0. Literals stay as they are.
     pub fn or(self, alloc: Global, rhs: Expr) -> Result<Expr, Error>
-        ensures { Answers formula_of result (Ok (either (formula_of self) (formula_of rhs))) }
+        ensures { ReturnsOrOutOfMemory formula_of result
+            (Ok (either (formula_of self) (formula_of rhs))) }
     {
         let left = Box::new(alloc, self.ast)?;
         let right = Box::new(alloc, rhs.ast)?;
@@ -224,7 +228,7 @@ impl Expr {
     }
 
     fn under(self, alloc: Global, op: UnOp) -> Result<Expr, Error>
-        ensures { Answers formula_of result (Ok (built op (formula_of self))) }
+        ensures { ReturnsOrOutOfMemory formula_of result (Ok (built op (formula_of self))) }
     {
         match self.ast {
             Ast::Literal(value) => Ok(Expr {
@@ -237,7 +241,7 @@ impl Expr {
     }
 
     fn beside(self, alloc: Global, op: BinOp, rhs: Expr) -> Result<Expr, Error>
-        ensures { Answers formula_of result (Ok
+        ensures { ReturnsOrOutOfMemory formula_of result (Ok
             (built_of_two op (formula_of self) (formula_of rhs))) }
     {
         match (self.ast, rhs.ast) {

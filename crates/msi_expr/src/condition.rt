@@ -1,7 +1,7 @@
 //! Conditions on rows.
 ghost use Rattle.std.specs.Prelude.{◌≡◌, Ok};
 ghost use Rattle.std.specs.Fmt.{DisplaysOnOk};
-ghost use Rattle.msi_texts.specs.Results.{Answers};
+ghost use Rattle.msi_texts.specs.Results.{ReturnsOrOutOfMemory};
 ghost use Rattle.msi_expr.specs.Formula.{formula_of};
 ghost use Rattle.msi_expr.specs.Conditions.{condition_of, narrowed};
 ghost use Rattle.msi_expr.specs.Printed.{condition_text};
@@ -18,7 +18,7 @@ pub fn narrowed_condition(
     condition: Option<Expr>,
     more: Expr,
 ) -> Result<Option<Expr>, Error>
-    ensures { Answers condition_of result
+    ensures { ReturnsOrOutOfMemory condition_of result
         (Ok (narrowed (condition_of condition) (formula_of more))) }
 {
     match condition {

@@ -1,8 +1,8 @@
 //! Expressions as they are seen from outside.
 ghost use Rattle.std.specs.Prelude.{◌≡◌, Ok, IsTrue, [], map, option_map};
-ghost use Rattle.msi_texts.specs.Results.{Answers};
+ghost use Rattle.msi_texts.specs.Results.{ReturnsOrOutOfMemory};
 ghost use Rattle.msi_values.specs.Datum.{datum_of};
-ghost use Rattle.msi_expr.specs.Formula.{equated_in, formula_of, literal_of, worth, has_columns, names_after};
+ghost use Rattle.msi_expr.specs.Formula.{equated_in, formula_of, literal_of, value_of_formula, has_columns, names_after};
 ghost use Rattle.msi_tables.specs.Row.{cells_of};
 
 use crate::ast::Ast;
@@ -22,14 +22,15 @@ impl Expr {
     /// What the expression is worth on a row that has each column it names. `Memory` where there is no memory for the value.
     pub fn eval(&self, alloc: Global, row: &Row) -> Result<Value, Error>
         requires { IsTrue (has_columns (cells_of row.now) (formula_of self.now)) }
-        ensures { Answers datum_of result (Ok (worth (cells_of row.now) (formula_of self.now))) }
+        ensures { ReturnsOrOutOfMemory datum_of result
+            (Ok (value_of_formula (cells_of row.now) (formula_of self.now))) }
     {
         self.ast.eval(alloc, row)?.into_value(alloc)
     }
 
     /// The names of its columns, each once, in the order in which they first stand. `Memory` where there is no memory for the list.
     pub fn column_names<'a>(&'a self, alloc: Global) -> Result<Vec<&'a str>, Error>
-        ensures { Answers (λ names. map (λ n. n.now) names.items) result
+        ensures { ReturnsOrOutOfMemory (λ names. map (λ n. n.now) names.items) result
             (Ok (names_after [] (formula_of self.now))) }
     {
         let mut names = Vec::new(alloc);

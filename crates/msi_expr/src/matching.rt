@@ -1,7 +1,7 @@
 //! Conditions judged on rows of cells.
 ghost use Rattle.cfb_medium.specs.declared.error.Error.TheVariants.{Memory};
 ghost use Rattle.msi_expr.specs.Formula.{formula_of, names_after};
-ghost use Rattle.msi_expr.specs.Conditions.{knows, knows_condition, matches, condition_of};
+ghost use Rattle.msi_expr.specs.Conditions.{has_named_columns, knows_condition, matches, condition_of};
 ghost use Rattle.msi_columns.specs.Column.{has_column};
 ghost use Rattle.msi_tables.specs.Held.{heading_of};
 ghost use Rattle.std.specs.List.{list_all};
@@ -24,7 +24,7 @@ pub fn knows_condition(
 ) -> Result<bool, Error>
     ensures ok { IfOk result (λ known. known
         ≡ knows_condition (heading_of table.now).columns (condition_of condition.now)) }
-    ensures err { IfErr result (λ e. e ≡ Memory) }
+    ensures errors { IfErr result (λ e. e ≡ Memory) }
 {
     match condition {
         None => Ok(true),
@@ -35,8 +35,8 @@ pub fn knows_condition(
 /// Whether the table has each column that the expression names. The one error is `Memory`.
 pub fn knows(alloc: Global, table: &Table, expr: &Expr) -> Result<bool, Error>
     ensures ok { IfOk result (λ known. known
-        ≡ knows (heading_of table.now).columns (formula_of expr.now)) }
-    ensures err { IfErr result (λ e. e ≡ Memory) }
+        ≡ has_named_columns (heading_of table.now).columns (formula_of expr.now)) }
+    ensures errors { IfErr result (λ e. e ≡ Memory) }
 {
     let names = expr.column_names(alloc)?;
     Ok(has_columns(table, &names))
@@ -62,7 +62,7 @@ pub fn matches(
     ensures ok { IfOk result (λ holds. holds
         ≡ matches pool.now.pool (heading_of (rc_value table.now)).columns
         (condition_of condition.now) row.now) }
-    ensures err { IfErr result (λ e. e ≡ Memory) }
+    ensures errors { IfErr result (λ e. e ≡ Memory) }
 {
     match condition {
         None => Ok(true),
@@ -78,11 +78,12 @@ pub fn holds(
     expr: &Expr,
     row: &[ValueRef],
 ) -> Result<bool, Error>
-    requires { IsTrue (knows (heading_of (rc_value table.now)).columns (formula_of expr.now)) }
+    requires { IsTrue
+        (has_named_columns (heading_of (rc_value table.now)).columns (formula_of expr.now)) }
     ensures ok { IfOk result (λ holds. holds
         ≡ matches pool.now.pool (heading_of (rc_value table.now)).columns
         (Some (formula_of expr.now)) row.now) }
-    ensures err { IfErr result (λ e. e ≡ Memory) }
+    ensures errors { IfErr result (λ e. e ≡ Memory) }
 {
     stored_holds(alloc, pool, table, expr, row)
 }
@@ -96,11 +97,11 @@ fn stored_holds(
     expr: &Expr,
     cells: &[ValueRef],
 ) -> Result<bool, Error>
-    requires { IsTrue (knows (heading_of table.now).columns (formula_of expr.now)) }
+    requires { IsTrue (has_named_columns (heading_of table.now).columns (formula_of expr.now)) }
     ensures ok { IfOk result (λ holds. holds
         ≡ matches pool.now.pool (heading_of table.now).columns (Some (formula_of expr.now))
         cells.now) }
-    ensures err { IfErr result (λ e. e ≡ Memory) }
+    ensures errors { IfErr result (λ e. e ≡ Memory) }
 {
     let row = StoredRow { pool, table, cells };
     let worth = expr.ast.eval(alloc, &row)?;

@@ -4,7 +4,7 @@ ghost use Rattle.msi_expr.specs.Worths.{worth_said};
 ghost use Rattle.msi_tables.specs.Held.{heading_of};
 ghost use Rattle.msi_tables.specs.Row.{Cells, cell_named, cells_of, named_cells};
 ghost use Rattle.msi_tables.specs.Table.{row_data};
-ghost use Rattle.msi_texts.specs.Results.{Answers};
+ghost use Rattle.msi_texts.specs.Results.{ReturnsOrOutOfMemory};
 ghost use Rattle.msi_values.specs.Borrowed.{borrowed_datum};
 ghost use Rattle.msi_values.specs.Datum.{null, counts_as_true, datum_of};
 ghost use Rattle.std.specs.Prelude.{◌≡◌, length, option_map, slice_index_or, Ok};
@@ -42,7 +42,7 @@ impl Worth<'_> {
 
     // A value of its own.
     pub(crate) fn into_value(self, alloc: Global) -> Result<Value, Error>
-        ensures { Answers datum_of result (Ok (worth_said self.entry)) }
+        ensures { ReturnsOrOutOfMemory datum_of result (Ok (worth_said self.entry)) }
     {
         match self {
             Worth::Borrowed(value) => value.to_value(alloc),

@@ -5,14 +5,14 @@ use Rattle.std.specs.List.{list_all}
 use Rattle.std.specs.declared.alloc.Global.{Global}
 use Rattle.cfb_medium.specs.declared.error.Error.{Error}
 use Rattle.cfb_medium.specs.declared.error.Error.TheVariants.{NotFound}
-use Rattle.cfb_tree.specs.Names.{Letters}
+use Rattle.cfb_tree.specs.Names.{CaseTable}
 use Rattle.cfb_tree.specs.Tree.{Tree}
-use Rattle.msi_parts.specs.Held.{AreHeld}
+use Rattle.msi_parts.specs.Held.{ArePartsOfTree}
 use Rattle.msi_parts.specs.declared.parts.PackageParts.{PackageParts}
-use Rattle.msi_pool.specs.Pool.{Stored}
-use Rattle.msi_pool.specs.PoolReading.{gives_back, stored_give_back, texts_at, Begun, Heads}
-use Rattle.msi_props.specs.Props.{all_give_back, stored_props, texts_give_back, gives_back as value_gives_back, Property, Props}
-use Rattle.msi_stored.specs.Reading.{TellsOrFault}
+use Rattle.msi_pool.specs.Pool.{StoredText}
+use Rattle.msi_pool.specs.PoolReading.{text_round_trips, stored_give_back, texts_at, Begun, Heads}
+use Rattle.msi_props.specs.Props.{all_give_back, stored_props, texts_give_back, property_round_trips as value_gives_back, Property, Props}
+use Rattle.msi_stored.specs.Reading.{ReturnsOrFault}
 use Rattle.msi_texts.specs.Results.{◌>>=◌, or_refused}
 use Rattle.msi_texts.specs.declared.codepage.CodePage.{CodePage}
 use Rattle.msi_findings.specs.Unkept.{heads_in, unkept_at, unkept_behind, unkept_from, unkept_numbers, unkept_properties, unkept_texts, unkept_values}
@@ -26,12 +26,12 @@ list_of other (Ok l) = l
 list_of other (Err e) = other
 
 -- there is none just where all are given back
-none_from : (page : CodePage) (n : ℕ) (ss : List Stored) → (unkept_from page n ss ≡ []) ↔ (list_all (λ s. gives_back page s.0) ss ≡ true)
+none_from : (page : CodePage) (n : ℕ) (ss : List StoredText) → (unkept_from page n ss ≡ []) ↔ (list_all (λ s. text_round_trips page s.0) ss ≡ true)
 none_from page n [] = (λ _. refl, λ _. refl)
-none_from page n (s ∷ ss) = by_test (gives_back page s.0) (none_from page (n + 1) ss)
+none_from page n (s ∷ ss) = by_test (text_round_trips page s.0) (none_from page (n + 1) ss)
   where
-    by_test : (b : Bool) → (unkept_from page (n + 1) ss ≡ []) ↔ (list_all (λ s. gives_back page s.0) ss ≡ true)
-        → ((if b then [] else (n ∷ [])) ++ unkept_from page (n + 1) ss ≡ []) ↔ (b && list_all (λ s. gives_back page s.0) ss ≡ true)
+    by_test : (b : Bool) → (unkept_from page (n + 1) ss ≡ []) ↔ (list_all (λ s. text_round_trips page s.0) ss ≡ true)
+        → ((if b then [] else (n ∷ [])) ++ unkept_from page (n + 1) ss ≡ []) ↔ (b && list_all (λ s. text_round_trips page s.0) ss ≡ true)
     by_test true rest = rest
     by_test false rest = (λ none. cc, λ all. cc)
 
@@ -49,9 +49,9 @@ pub no_text : (page : CodePage) (heads : Heads) (bytes : List ℕ) (gives : Bool
     → (found ≡ []) ↔ (gives ≡ true)
 no_text page heads bytes gives found given listed = go (texts_at heads bytes) given listed
   where
-    go : (r : Result (List Stored) Error) → (r >>= λ stored. Ok (list_all (λ s. gives_back page s.0) stored)) ≡ Ok gives → (r >>= λ stored. Ok (unkept_from page 1 stored)) ≡ Ok found → (found ≡ []) ↔ (gives ≡ true)
+    go : (r : Result (List StoredText) Error) → (r >>= λ stored. Ok (list_all (λ s. text_round_trips page s.0) stored)) ≡ Ok gives → (r >>= λ stored. Ok (unkept_from page 1 stored)) ≡ Ok found → (found ≡ []) ↔ (gives ≡ true)
     go (Ok stored) g f =
-        let is : list_all (λ s. gives_back page s.0) stored ≡ gives = ap (bool_of true) g in
+        let is : list_all (λ s. text_round_trips page s.0) stored ≡ gives = ap (bool_of true) g in
         let these : unkept_from page 1 stored ≡ found = ap (list_of []) f in
         let both = none_from page 1 stored in
         (λ none. sym is ∙ both.0 (these ∙ none), λ all. sym these ∙ both.1 (is ∙ all))
@@ -70,12 +70,12 @@ no_value bytes found listed = go (stored_props bytes) listed
 -- ---- the same of a package's parts
 
 -- what is told of a list that a definition gives
-pub if_listed : (P : List ℕ → Type 0) (d : Result (List ℕ) Error) (r : Result (Vec ℕ Global) Error) → TellsOrFault (λ found. found.items) d r → ((found : List ℕ) → d ≡ Ok found → P found)
+pub if_listed : (P : List ℕ → Type 0) (d : Result (List ℕ) Error) (r : Result (Vec ℕ Global) Error) → ReturnsOrFault (λ found. found.items) d r → ((found : List ℕ) → d ≡ Ok found → P found)
     → IfOk r (λ found. P found.items)
 if_listed P d (Ok found) told law = law found.items told
 if_listed P d (Err e) told law = tt
 
-module _ (letters : Letters) (tree : Tree) (it : PackageParts) (held : AreHeld letters tree it) where
+module _ (letters : CaseTable) (tree : Tree) (it : PackageParts) (held : ArePartsOfTree letters tree it) where
   pub no_unkept_text : (found : List ℕ) → unkept_texts letters tree ≡ Ok found → (found ≡ []) ↔ (it.gives_back ≡ true)
   no_unkept_text found told =
       let parts = held.parts.parts in

@@ -8,23 +8,23 @@ use Rattle.std.specs.List.{list_any}
 use Rattle.std.specs.Ordering.{is_eq, nat_cmp}
 use Rattle.std.specs.declared.alloc.Global.{Global}
 use Rattle.cfb_entries.specs.Listed.{Listed, listed}
-use Rattle.cfb_meaning.specs.TreeRules.{Object, a_storage, a_stream, children_shown, name_of, shown}
-use Rattle.cfb_medium.specs.Calls.{IsFaultUnless}
+use Rattle.cfb_spec.specs.TreeRules.{Object, a_storage, a_stream, children_shown, name_of, shown}
+use Rattle.cfb_medium.specs.Calls.{IsFaultOrInvalidInputIf}
 use Rattle.cfb_medium.specs.declared.error.Error.{Error}
 use Rattle.cfb_medium.specs.declared.error.Error.TheVariants.{Memory}
-use Rattle.cfb_tree.specs.Names.{Letters, name_key}
+use Rattle.cfb_tree.specs.Names.{CaseTable, name_key}
 use Rattle.cfb_tree.specs.Tree.{Content, nothing, storage, stream}
 use Rattle.msi_findings.specs.Misplaced.{misplaced, names_of}
-use Rattle.msi_findings.specs.Placing.{misplaced_in, HasKeys}
+use Rattle.msi_findings.specs.Placing.{misplaced_in, KeysMatchHeadings}
 use Rattle.msi_findings.specs.declared.placing.TableNames.{TableNames}
-use Rattle.msi_meaning.specs.Package.{objects, stream_name}
+use Rattle.msi_spec.specs.Package.{objects, stream_name}
 use Rattle.msi_parts.specs.Judged.{is_in_place}
 use Rattle.msi_store.proofs.Keys.{one_of}
 use Rattle.msi_store.specs.Placing.{is_listed_well, is_one_of}
 use Rattle.msi_tables.specs.Table.{Heading}
 
 -- the key of a name stands among those of tables where the name counts as one of theirs
-pub is_found : (letters : Letters) (headings : List Heading) (it : TableNames) → HasKeys letters headings it → (key name : List ℕ) → key ≡ name_key letters name
+pub is_found : (letters : CaseTable) (headings : List Heading) (it : TableNames) → KeysMatchHeadings letters headings it → (key name : List ℕ) → key ≡ name_key letters name
     → contains_by (λ x. slice_cmp nat_cmp key x.items) it.keys ≡ is_one_of letters (map (λ h. stream_name h.name) headings) name
 is_found letters headings it has key name same =
     let names = map (λ h. stream_name h.name) headings in
@@ -36,7 +36,7 @@ picked : (b : Bool) (l : Listed) (o : Object) (ls : List Listed) (os : List Obje
 picked true l o ls os same rest = ap₂ (λ n ns. n ∷ ns) same rest
 picked false l o ls os same rest = rest
 
-module _ (letters : Letters) (headings : List Heading) where
+module _ (letters : CaseTable) (headings : List Heading) where
   one_by_one : (l : Listed) (ls : List Listed) → misplaced_in letters headings (l ∷ ls) ≡ misplaced_in letters headings (l ∷ []) ++ misplaced_in letters headings ls
   one_by_one l ls = by_test (not (is_listed_well letters headings l))
     where
@@ -75,6 +75,6 @@ module _ (letters : Letters) (headings : List Heading) where
       picked (not (is_in_place letters headings o)) (listed (shown (name ∷ []) o)) o _ _ refl (listed_objects later)
 
   pub told_misplaced : (c : Content) (r : Result (Vec (String Global) Global) Error) → IfOk r (λ found. names_of found.items ≡ misplaced_in letters headings (map listed (children_shown [] c)))
-      → IfErr r (λ e. e ≡ Memory) → MatchResult r (λ found. names_of found.items ≡ misplaced letters headings (objects c)) (IsFaultUnless ⊥)
+      → IfErr r (λ e. e ≡ Memory) → MatchResult r (λ found. names_of found.items ≡ misplaced letters headings (objects c)) (IsFaultOrInvalidInputIf ⊥)
   told_misplaced c (Ok found) ok err = ok ∙ listed_objects c
-  told_misplaced c (Err e) ok err = subst (IsFaultUnless ⊥) (sym err) tt
+  told_misplaced c (Err e) ok err = subst (IsFaultOrInvalidInputIf ⊥) (sym err) tt

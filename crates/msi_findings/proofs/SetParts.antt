@@ -6,12 +6,12 @@ use Rattle.std.specs.declared.alloc.Global.{Global}
 use Rattle.cfb_medium.specs.declared.error.Error.{Error}
 use Rattle.cfb_medium.specs.declared.error.Error.TheVariants.{InvalidData, Memory, UnexpectedEof}
 use Rattle.msi_pool.proofs.PoolHeads.{bind_cases, rest_of}
-use Rattle.msi_pool.specs.PoolReading.{gives_back}
-use Rattle.msi_props.specs.Props.{head_at, is_i1, page_at, properties_at, property_at, props_read, section_at, stored_props, system_of, gives_back as value_gives_back, Head, Property, Props}
+use Rattle.msi_pool.specs.PoolReading.{text_round_trips}
+use Rattle.msi_props.specs.Props.{head_at, is_i1, page_at, properties_at, property_at, props_read, section_at, stored_props, system_of, property_round_trips as value_gives_back, Head, Property, Props}
 use Rattle.msi_props.specs.Props as property
 use Rattle.msi_texts.specs.Numbers.{le_number}
 use Rattle.msi_texts.specs.Reading.{bytes_at, number_at}
-use Rattle.msi_texts.specs.Results.{◌>>=◌, unless_not, Answers}
+use Rattle.msi_texts.specs.Results.{◌>>=◌, unless_not, ReturnsOrOutOfMemory}
 use Rattle.msi_texts.specs.declared.codepage.CodePage.{CodePage}
 use Rattle.msi_findings.specs.Unkept.{text_in, unkept_numbers, unkept_value, unkept_values}
 
@@ -98,8 +98,8 @@ no_offset bytes front e head begins at reads =
     cc
 
 -- a value that is a text is kept where its bytes are, and any other is
-pub kept_text : (page : CodePage) (v : Property) (bytes : List ℕ) (r : Result Bool Error) → Some bytes ≡ text_in v → IfOk r (λ is. is ≡ gives_back page bytes) → IfOk r (λ is. is ≡ value_gives_back page v)
-kept_text page (property.text t) bytes (Ok b) same is = is ∙ ap (gives_back page) (text_is bytes t same)
+pub kept_text : (page : CodePage) (v : Property) (bytes : List ℕ) (r : Result Bool Error) → Some bytes ≡ text_in v → IfOk r (λ is. is ≡ text_round_trips page bytes) → IfOk r (λ is. is ≡ value_gives_back page v)
+kept_text page (property.text t) bytes (Ok b) same is = is ∙ ap (text_round_trips page) (text_is bytes t same)
   where
     own : List ℕ → Option (List ℕ) → List ℕ
     own old (Some x) = x
@@ -188,7 +188,7 @@ module _ (bytes section : List ℕ) (P : Props) (read : props_read bytes ≡ Ok 
 
   pub unkept_so : (pairs : List (ℕ × ℕ)) → section_at section ≡ Ok pairs → (r : Result (Vec ℕ Global) Error)
       → ((version : ℕ) (values : List (ℕ × Property)) → properties_at version section pairs ≡ Ok values → IfOk r (λ found. found.items ≡ unkept_numbers P.page values))
-      → IfErr r (λ e. e ≡ Memory) → Answers (λ found. found.items) r (unkept_values bytes)
+      → IfErr r (λ e. e ≡ Memory) → ReturnsOrOutOfMemory (λ found. found.items) r (unkept_values bytes)
   unkept_so pairs stands (Err e) told memory = inl memory
   unkept_so pairs stands (Ok found) told memory =
       let s = stored_so in

@@ -2,17 +2,17 @@
 use Rattle.std.proofs.Common.{◌≡◌, ◌∙◌, ◌⊎◌, Bool, true, false, List, [], ◌∷◌, ◌++◌, inl, inr, refl, sym, ap, subst}
 use Rattle.std.specs.Prelude.{Option, Some, None, cond, is_none}
 use Rattle.std.proofs.lemmas.List.{append-nil, append_assoc}
-use Rattle.cfb_medium.specs.Calls.{IsFaultUnless}
+use Rattle.cfb_medium.specs.Calls.{IsFaultOrInvalidInputIf}
 use Rattle.cfb_medium.specs.declared.error.Error.{Error}
 use Rattle.cfb_medium.specs.declared.error.Error.TheVariants.{InvalidData}
-use Rattle.cfb_tree.specs.Names.{Letters}
+use Rattle.cfb_tree.specs.Names.{CaseTable}
 use Rattle.cfb_tree.specs.Tree.{Tree}
 use Rattle.msi_findings.specs.Findings.{unread}
-use Rattle.msi_stored.specs.Stored.{rows_in}
+use Rattle.msi_stored.specs.StoredPackages.{rows_in}
 use Rattle.msi_tables.specs.Rows.{Row}
 use Rattle.msi_tables.specs.Table.{Heading}
 
-module _ (letters : Letters) (tree : Tree) where
+module _ (letters : CaseTable) (tree : Tree) where
   pub read_table : (old : List Heading) (h : Heading) (rows : List Row) → rows_in letters tree h ≡ Some rows → old ≡ old ++ unread letters tree (h ∷ [])
   read_table old h rows is = sym (append-nil old) ∙ ap (λ (o : Option (List Row)). old ++ cond (is_none o) (h ∷ []) []) (sym is)
 
@@ -39,6 +39,6 @@ module _ (letters : Letters) (tree : Tree) where
   unread_all old all before none so_far = sym (append-nil old) ∙ ap (λ l. old ++ unread letters tree l) (sym none) ∙ so_far
 
 -- an error that tells of a table that can't be read
-pub unread_so : (e : Error) (A : Type 0) → e ≡ InvalidData → IsFaultUnless ⊥ e ⊎ ((e ≡ InvalidData) × A) → A
-unread_so e A is (inl fault) = absurd (subst (IsFaultUnless ⊥) is fault)
+pub unread_so : (e : Error) (A : Type 0) → e ≡ InvalidData → IsFaultOrInvalidInputIf ⊥ e ⊎ ((e ≡ InvalidData) × A) → A
+unread_so e A is (inl fault) = absurd (subst (IsFaultOrInvalidInputIf ⊥) is fault)
 unread_so e A is (inr both) = both.1

@@ -1,17 +1,17 @@
 //! Texts that aren't counted right.
 ghost use Rattle.std.specs.Prelude.{◌≡◌, ◌⊎◌, ◌++◌, ◌<◌, ◌^◌, length, map, IfErr, IfOk, MatchResult, OnOk};
-ghost use Rattle.cfb.specs.Streams.{FileHolds};
-ghost use Rattle.cfb.specs.Views.{letters_in, mini_of, FileRests};
-ghost use Rattle.cfb_fat.specs.Tables.{HasCauseBelow};
-ghost use Rattle.cfb_medium.specs.Calls.{IsFaultUnless};
+ghost use Rattle.cfb.specs.Streams.{FileHoldsTree};
+ghost use Rattle.cfb.specs.Views.{file_case_table, mini_of, OnlyReadsFile};
+ghost use Rattle.cfb_fat.specs.Tables.{IsJustifiedBySectors};
+ghost use Rattle.cfb_medium.specs.Calls.{IsFaultOrInvalidInputIf};
 ghost use Rattle.cfb_medium.specs.declared.error.Error.TheVariants.{InvalidData, Memory};
 ghost use Rattle.cfb_mini.specs.Views.{allocator_of};
 ghost use Rattle.cfb_tree.specs.Tree.{Tree};
 ghost use Rattle.msi_adopting.specs.Counted.{CanBeCounted};
 ghost use Rattle.msi_findings.specs.Findings.{miscounted, miscounts};
-ghost use Rattle.msi_judge.specs.Counting.{table_at};
-ghost use Rattle.msi_meaning.specs.Sound.{uses_of};
-ghost use Rattle.msi_pool.specs.Pool.{at_place};
+ghost use Rattle.msi_soundness.specs.Counting.{table_at};
+ghost use Rattle.msi_spec.specs.Sound.{refcounts_of};
+ghost use Rattle.msi_pool.specs.Pool.{pool_entry_at};
 ghost use Rattle.msi_recounted.specs.Counts.{listed_uses};
 ghost use Rattle.msi_schema.specs.Headings.{headings_in};
 
@@ -35,15 +35,17 @@ pub fn miscounts<F: ReadMedium>(
     tables: &[Rc<Table>],
 ) -> Result<Vec<Miscount>, Error>
     requires { length pool.now.pool.places < 2 ^ 24 }
-    ensures told { (tree : Tree) → FileHolds file.old tree → MatchResult result
-        (λ found. found.items ≡ miscounts (uses_of (map (table_at (letters_in file.old) tree)
-        (headings_in tables.now))) pool.now.pool.places) (λ e. IsFaultUnless ⊥ e
-        ⊎ ((e ≡ InvalidData) × (CanBeCounted (letters_in file.old) tree (headings_in tables.now)
+    ensures answer { (tree : Tree) → FileHoldsTree file.old tree → MatchResult result
+        (λ found. found.items ≡ miscounts
+        (refcounts_of (map (table_at (file_case_table file.old) tree)
+        (headings_in tables.now))) pool.now.pool.places) (λ e. IsFaultOrInvalidInputIf ⊥ e
+        ⊎ ((e ≡ InvalidData)
+        × (CanBeCounted (file_case_table file.old) tree (headings_in tables.now)
         (length pool.now.pool.places) → ⊥))) }
-    ensures rests { FileRests file.old file.new }
-    ensures cause { IfErr result (HasCauseBelow (allocator_of (mini_of file.old))
+    ensures only_reads { OnlyReadsFile file.old file.new }
+    ensures cause { IfErr result (IsJustifiedBySectors (allocator_of (mini_of file.old))
         (allocator_of (mini_of file.new))) }
-    ensures kinds { IfErr result (λ e. IsFaultUnless ⊥ e ⊎ (e ≡ InvalidData)) }
+    ensures errors { IfErr result (λ e. IsFaultOrInvalidInputIf ⊥ e ⊎ (e ≡ InvalidData)) }
 {
     match uses_of_places(alloc, file, pool, tables) {
         Ok(uses) => differing(alloc, pool, &uses),
@@ -57,7 +59,7 @@ fn differing(alloc: Global, pool: &StringPool, uses: &[u16]) -> Result<Vec<Misco
     requires few { length uses.now < 2 ^ 24 }
     ensures found { IfOk result (λ found. found.items
         ≡ miscounts (listed_uses uses.now) pool.now.pool.places) }
-    ensures kinds { IfErr result (λ e. e ≡ Memory) }
+    ensures errors { IfErr result (λ e. e ≡ Memory) }
 {
     let mut found = Vec::new(alloc);
     for (index, used) in uses.iter().enumerate() {
@@ -75,7 +77,7 @@ fn note(
 ) -> Result<(), AllocError>
     requires { (0 < place) × (place < 2 ^ 24) }
     ensures { OnOk result (found.new.items ≡ found.old.items ++ miscounted (λ n. used) place
-        (at_place pool.now.pool.places place)) }
+        (pool_entry_at pool.now.pool.places place)) }
 {
     let counted = pool.refcount(StringRef::new(place));
     if counted == used {

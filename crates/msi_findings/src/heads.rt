@@ -1,7 +1,7 @@
 //! What the first of a pool's two streams tells of the second.
 ghost use Rattle.std.specs.Prelude.{◌≡◌, ◌<◌, ◌^◌, length, pos, Err, IfErr, IfOk, Ok};
 ghost use Rattle.msi_pool.specs.PoolReading.{head_at, heads_at, page_number};
-ghost use Rattle.msi_texts.specs.Results.{Answers};
+ghost use Rattle.msi_texts.specs.Results.{ReturnsOrOutOfMemory};
 ghost use Rattle.msi_findings.specs.Unkept.{heads_in};
 
 use cfb_medium::Error;
@@ -14,7 +14,7 @@ const LONG_STRING_REFS_BIT: u32 = 1 << 31;
 // The page of a pool, and the length and the count of each place. `UnexpectedEof` where bytes are missing, `InvalidData` for an unknown
 // page or more than 4294967295 places; a rest of one byte is ignored.
 pub(crate) fn read_pool(alloc: Global, bytes: &[u8]) -> Result<(CodePage, Vec<(u32, u16)>), Error>
-    ensures read { Answers (λ pool. (pool.0, pool.1.items)) result
+    ensures read { ReturnsOrOutOfMemory (λ pool. (pool.0, pool.1.items)) result
         (heads_in bytes.now) }
     ensures few { IfOk result (λ pool. length pool.1.items < 2 ^ 32) }
 {
@@ -41,7 +41,8 @@ fn page_number(id: u32) -> i32
 
 // The length and the count of each place.
 fn read_heads(alloc: Global, bytes: &[u8]) -> Result<Vec<(u32, u16)>, Error>
-    ensures { Answers (λ heads. heads.items) result (heads_at (length bytes.now) bytes.now) }
+    ensures { ReturnsOrOutOfMemory (λ heads. heads.items) result
+        (heads_at (length bytes.now) bytes.now) }
 {
     let mut rest = bytes;
     let mut heads = Vec::new(alloc);
@@ -54,7 +55,7 @@ fn read_heads(alloc: Global, bytes: &[u8]) -> Result<Vec<(u32, u16)>, Error>
 // Takes the length and the count of the next place.
 fn read_head(reader: &mut &[u8]) -> Result<(u32, u16), Error>
     ensures ok { IfOk result (λ head. head_at reader.old.now ≡ Ok (head, reader.new.now)) }
-    ensures error { IfErr result (λ e. head_at reader.old.now ≡ Err e) }
+    ensures errors { IfErr result (λ e. head_at reader.old.now ≡ Err e) }
 {
     let len = u32::from(read_u16(reader)?);
     let count = read_u16(reader)?;

@@ -1,18 +1,18 @@
 //! Objects under the root that stand where a sound package has none.
 ghost use Rattle.std.specs.Prelude.{◌≡◌, ◌++◌, ◌∷◌, [], map, IfErr, IfOk, List, MatchResult, OnOk};
-ghost use Rattle.cfb.specs.Streams.{FileHolds};
-ghost use Rattle.cfb.specs.Views.{letters_in, mini_of};
+ghost use Rattle.cfb.specs.Streams.{FileHoldsTree};
+ghost use Rattle.cfb.specs.Views.{file_case_table, mini_of};
 ghost use Rattle.cfb_entries.specs.Listed.{listed_in};
 ghost use Rattle.cfb_entries.specs.Lists.{entries_left};
-ghost use Rattle.cfb_fat.specs.Tables.{HasCauseBelow};
-ghost use Rattle.cfb_medium.specs.Calls.{IsFaultUnless};
+ghost use Rattle.cfb_fat.specs.Tables.{IsJustifiedBySectors};
+ghost use Rattle.cfb_medium.specs.Calls.{IsFaultOrInvalidInputIf};
 ghost use Rattle.cfb_medium.specs.declared.error.Error.TheVariants.{Memory};
 ghost use Rattle.cfb_mini.specs.Views.{allocator_of};
-ghost use Rattle.cfb_tree.specs.LetterViews.{letters_of};
+ghost use Rattle.cfb_tree.specs.CaseTableViews.{case_table_of};
 ghost use Rattle.cfb_tree.specs.Tree.{Tree};
 ghost use Rattle.msi_findings.specs.Misplaced.{misplaced, names_of};
-ghost use Rattle.msi_findings.specs.Placing.{misplaced_in, HasKeys};
-ghost use Rattle.msi_meaning.specs.Package.{objects};
+ghost use Rattle.msi_findings.specs.Placing.{misplaced_in, KeysMatchHeadings};
+ghost use Rattle.msi_spec.specs.Package.{objects};
 ghost use Rattle.msi_schema.specs.Headings.{headings_in};
 ghost use Rattle.msi_tables.specs.Table.{Heading};
 
@@ -31,10 +31,11 @@ pub fn misplaced_objects<F: ReadMedium>(
     file: &CompoundFile<F>,
     tables: &[Rc<Table>],
 ) -> Result<Vec<String>, Error>
-    ensures told { (tree : Tree) → FileHolds file.now tree → MatchResult result
-        (λ found. names_of found.items ≡ misplaced (letters_in file.now) (headings_in tables.now)
-        (objects tree.content)) (IsFaultUnless ⊥) }
-    ensures cause { IfErr result (HasCauseBelow (allocator_of (mini_of file.now))
+    ensures answer { (tree : Tree) → FileHoldsTree file.now tree → MatchResult result
+        (λ found. names_of found.items ≡ misplaced (file_case_table file.now)
+        (headings_in tables.now)
+        (objects tree.content)) (IsFaultOrInvalidInputIf ⊥) }
+    ensures cause { IfErr result (IsJustifiedBySectors (allocator_of (mini_of file.now))
         (allocator_of (mini_of file.now))) }
 {
     let names = table_names(alloc, file.letters(), tables)?;
@@ -51,11 +52,12 @@ fn among(
     names: &TableNames,
     entries: Entries,
 ) -> Result<Vec<String>, Error>
-    ensures ok { (headings : List Heading) → HasKeys (letters_of letters.now) headings names.now
+    ensures ok { (headings : List Heading)
+        → KeysMatchHeadings (case_table_of letters.now) headings names.now
         → IfOk result
-        (λ found. names_of found.items ≡ misplaced_in (letters_of letters.now) headings
+        (λ found. names_of found.items ≡ misplaced_in (case_table_of letters.now) headings
         (map listed_in (entries_left entries))) }
-    ensures err { IfErr result (λ e. e ≡ Memory) }
+    ensures errors { IfErr result (λ e. e ≡ Memory) }
 {
     let mut found = Vec::new(alloc);
     for entry in entries {
@@ -72,10 +74,11 @@ fn note(
     entry: &Entry,
     found: &mut Vec<String>,
 ) -> Result<(), Error>
-    ensures ok { (headings : List Heading) → HasKeys (letters_of letters.now) headings names.now
+    ensures ok { (headings : List Heading)
+        → KeysMatchHeadings (case_table_of letters.now) headings names.now
         → OnOk result (names_of found.new.items ≡ names_of found.old.items
-        ++ misplaced_in (letters_of letters.now) headings (listed_in entry.now ∷ [])) }
-    ensures err { IfErr result (λ e. e ≡ Memory) }
+        ++ misplaced_in (case_table_of letters.now) headings (listed_in entry.now ∷ [])) }
+    ensures errors { IfErr result (λ e. e ≡ Memory) }
 {
     if is_in_place(alloc, letters, names, entry.name(), entry.is_storage())? {
         return Ok(());

@@ -2,9 +2,9 @@
 ghost use Rattle.std.specs.Prelude.{◌≡◌, chars, map, IfErr, IfOk, List};
 ghost use Rattle.std.specs.Rc.{rc_value};
 ghost use Rattle.cfb_medium.specs.declared.error.Error.TheVariants.{Memory};
-ghost use Rattle.cfb_tree.specs.LetterViews.{letters_of};
-ghost use Rattle.msi_findings.specs.Placing.{HasKeys};
-ghost use Rattle.msi_meaning.specs.Package.{stream_name};
+ghost use Rattle.cfb_tree.specs.CaseTableViews.{case_table_of};
+ghost use Rattle.msi_findings.specs.Placing.{KeysMatchHeadings};
+ghost use Rattle.msi_spec.specs.Package.{stream_name};
 ghost use Rattle.msi_store.specs.Placing.{is_placed, HoldKeys};
 ghost use Rattle.msi_tables.specs.Held.{heading_of};
 ghost use Rattle.msi_tables.specs.Table.{Heading};
@@ -33,9 +33,9 @@ pub(crate) fn table_names(
     letters: &CaseMapper,
     tables: &[Rc<Table>],
 ) -> Result<TableNames, Error>
-    ensures ok { IfOk result (HasKeys (letters_of letters.now)
+    ensures ok { IfOk result (KeysMatchHeadings (case_table_of letters.now)
         (map (λ t. heading_of (rc_value t)) tables.now)) }
-    ensures err { IfErr result (λ e. e ≡ Memory) }
+    ensures errors { IfErr result (λ e. e ≡ Memory) }
 {
     let keys = table_keys(alloc, letters, tables)?;
     let pool = encode(alloc, "_StringPool", true)?;
@@ -49,9 +49,9 @@ fn table_keys(
     letters: &CaseMapper,
     tables: &[Rc<Table>],
 ) -> Result<BTreeSet<Vec<u16>>, Error>
-    ensures ok { IfOk result (HoldKeys (letters_of letters.now)
+    ensures ok { IfOk result (HoldKeys (case_table_of letters.now)
         (map (λ h. stream_name h.name) (map (λ t. heading_of (rc_value t)) tables.now))) }
-    ensures err { IfErr result (λ e. e ≡ Memory) }
+    ensures errors { IfErr result (λ e. e ≡ Memory) }
 {
     let mut keys = BTreeSet::new(alloc);
     for table in tables {
@@ -69,10 +69,11 @@ pub(crate) fn is_in_place(
     name: &str,
     is_storage: bool,
 ) -> Result<bool, Error>
-    ensures ok { (headings : List Heading) → HasKeys (letters_of letters.now) headings names.now
-        → IfOk result (λ is. is ≡ is_placed (letters_of letters.now) headings (chars name.now)
+    ensures ok { (headings : List Heading)
+        → KeysMatchHeadings (case_table_of letters.now) headings names.now
+        → IfOk result (λ is. is ≡ is_placed (case_table_of letters.now) headings (chars name.now)
         is_storage) }
-    ensures err { IfErr result (λ e. e ≡ Memory) }
+    ensures errors { IfErr result (λ e. e ≡ Memory) }
 {
     let key = name_key(alloc, letters, name)?;
     let is_table = names.keys.contains(&key);

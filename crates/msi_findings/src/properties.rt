@@ -1,16 +1,16 @@
 //! Properties of the summary whose texts its page doesn't give back.
 ghost use Rattle.std.specs.Prelude.{◌≡◌, ◌↔◌, ◌++◌, [], drop, true, IfErr, IfOk, List, Ok, OnOk, ℕ};
-ghost use Rattle.cfb.specs.Streams.{FileHolds};
-ghost use Rattle.cfb.specs.Views.{letters_in, mini_of, FileRests};
-ghost use Rattle.cfb_fat.specs.Tables.{HasCauseBelow};
+ghost use Rattle.cfb.specs.Streams.{FileHoldsTree};
+ghost use Rattle.cfb.specs.Views.{file_case_table, mini_of, OnlyReadsFile};
+ghost use Rattle.cfb_fat.specs.Tables.{IsJustifiedBySectors};
 ghost use Rattle.cfb_medium.specs.declared.error.Error.TheVariants.{Memory};
 ghost use Rattle.cfb_mini.specs.Views.{allocator_of};
 ghost use Rattle.cfb_tree.specs.Tree.{Tree};
-ghost use Rattle.msi_parts.specs.Held.{AreHeld};
+ghost use Rattle.msi_parts.specs.Held.{ArePartsOfTree};
 ghost use Rattle.msi_parts.specs.declared.parts.PackageParts.{PackageParts};
-ghost use Rattle.msi_props.specs.Props.{gives_back, properties_at, property_at, Property};
-ghost use Rattle.msi_stored.specs.Reading.{IsOpeningError, TellsOrFault};
-ghost use Rattle.msi_texts.specs.Results.{Answers};
+ghost use Rattle.msi_props.specs.Props.{property_round_trips, properties_at, property_at, Property};
+ghost use Rattle.msi_stored.specs.Reading.{IsOpeningError, ReturnsOrFault};
+ghost use Rattle.msi_texts.specs.Results.{ReturnsOrOutOfMemory};
 ghost use Rattle.msi_findings.specs.Unkept.{unkept_numbers, unkept_properties, unkept_value, unkept_values};
 
 use crate::giving::gives_back;
@@ -29,15 +29,16 @@ pub fn unkept_properties<F: ReadMedium>(
     alloc: Global,
     file: &mut CompoundFile<F>,
 ) -> Result<Vec<u32>, Error>
-    ensures told { (tree : Tree) → FileHolds file.old tree → TellsOrFault (λ found. found.items)
-        (unkept_properties (letters_in file.old) tree) result }
-    ensures none { (tree : Tree) (parts : PackageParts) → FileHolds file.old tree
-        → AreHeld (letters_in file.old) tree parts
+    ensures answer { (tree : Tree) → FileHoldsTree file.old tree
+        → ReturnsOrFault (λ found. found.items)
+        (unkept_properties (file_case_table file.old) tree) result }
+    ensures none { (tree : Tree) (parts : PackageParts) → FileHoldsTree file.old tree
+        → ArePartsOfTree (file_case_table file.old) tree parts
         → IfOk result (λ found. (found.items ≡ []) ↔ (parts.summary.whole ≡ true)) }
-    ensures rests { FileRests file.old file.new }
-    ensures cause { IfErr result (HasCauseBelow (allocator_of (mini_of file.old))
+    ensures only_reads { OnlyReadsFile file.old file.new }
+    ensures cause { IfErr result (IsJustifiedBySectors (allocator_of (mini_of file.old))
         (allocator_of (mini_of file.new))) }
-    ensures kinds { IfErr result IsOpeningError }
+    ensures errors { IfErr result IsOpeningError }
 {
     match stream_bytes(file, SUMMARY_INFO_STREAM_NAME) {
         Ok(Some(bytes)) => unkept_values(alloc, &bytes),
@@ -48,7 +49,7 @@ pub fn unkept_properties<F: ReadMedium>(
 
 // The numbers of the values of a set that its page doesn't give back, or why there is no set.
 fn unkept_values(alloc: Global, bytes: &[u8]) -> Result<Vec<u32>, Error>
-    ensures { Answers (λ found. found.items) result (unkept_values bytes.now) }
+    ensures { ReturnsOrOutOfMemory (λ found. found.items) result (unkept_values bytes.now) }
 {
     let set = PropertySet::read(alloc, bytes)?;
     let section = section_of(bytes);
@@ -66,7 +67,7 @@ fn unkept_among(
     ensures ok { (version : ℕ) (values : List (ℕ × Property))
         → properties_at version section.now pairs.now ≡ Ok values
         → IfOk result (λ found. found.items ≡ unkept_numbers codepage values) }
-    ensures err { IfErr result (λ e. e ≡ Memory) }
+    ensures errors { IfErr result (λ e. e ≡ Memory) }
 {
     let mut found = Vec::new(alloc);
     for pair in pairs {
@@ -85,7 +86,7 @@ fn note(
 ) -> Result<(), Error>
     ensures ok { (v : Property) → property_at (drop pair.1 section.now) ≡ Ok v
         → OnOk result (found.new.items ≡ found.old.items ++ unkept_value codepage pair.0 v) }
-    ensures err { IfErr result (λ e. e ≡ Memory) }
+    ensures errors { IfErr result (λ e. e ≡ Memory) }
 {
     let (number, offset) = pair;
     if is_kept(alloc, codepage, section, offset)? {
@@ -98,8 +99,8 @@ fn note(
 // Whether the value at an offset of a section, which can be read, is given back. The one error is `Memory`.
 fn is_kept(alloc: Global, codepage: CodePage, section: &[u8], offset: u32) -> Result<bool, Error>
     ensures ok { (v : Property) → property_at (drop offset section.now) ≡ Ok v
-        → IfOk result (λ is. is ≡ gives_back codepage v) }
-    ensures err { IfErr result (λ e. e ≡ Memory) }
+        → IfOk result (λ is. is ≡ property_round_trips codepage v) }
+    ensures errors { IfErr result (λ e. e ≡ Memory) }
 {
     match text_at_offset(section, offset) {
         Some(text) => gives_back(alloc, codepage, text),

@@ -1,7 +1,7 @@
 //! The section of a property set that can be read: where its values stand.
 ghost use Rattle.std.specs.Prelude.{◌≡◌, [], drop, option_map, Ok};
 ghost use Rattle.msi_props.specs.Props.{head_at, pairs_at, property_at, section_at, text_at, Head, Property};
-ghost use Rattle.msi_texts.specs.Results.{Answers};
+ghost use Rattle.msi_texts.specs.Results.{ReturnsOrOutOfMemory};
 ghost use Rattle.msi_findings.specs.Unkept.{front_of, text_in};
 
 use cfb_medium::Error;
@@ -41,7 +41,7 @@ fn behind(bytes: &[u8], offset: u32) -> &[u8]
 
 // The numbers of a section and the offsets of their values, by rising number.
 pub(crate) fn read_section(alloc: Global, section: &[u8]) -> Result<Vec<(u32, u32)>, Error>
-    ensures { Answers (λ pairs. pairs.items) result (section_at section.now) }
+    ensures { ReturnsOrOutOfMemory (λ pairs. pairs.items) result (section_at section.now) }
 {
     let mut rest = section;
     let _size = read_u32(&mut rest)?;
@@ -52,7 +52,8 @@ pub(crate) fn read_section(alloc: Global, section: &[u8]) -> Result<Vec<(u32, u3
 
 // Takes so many pairs of a number and an offset, by rising number. `InvalidData` where a number stands twice.
 fn read_pairs(alloc: Global, count: u32, reader: &mut &[u8]) -> Result<BTreeMap<u32, u32>, Error>
-    ensures { Answers (λ pairs. pairs.entries) result (pairs_at count reader.old.now []) }
+    ensures { ReturnsOrOutOfMemory (λ pairs. pairs.entries) result
+        (pairs_at count reader.old.now []) }
 {
     let mut pairs = BTreeMap::new(alloc);
     for _ in 0..count {

@@ -1,9 +1,9 @@
 //! Tables that a sound package hasn't.
 ghost use Rattle.std.specs.Prelude.{◌≡◌, ◌++◌, ◌∷◌, [], IfErr, IfOk, OnOk};
-ghost use Rattle.cfb.specs.Streams.{FileHolds};
-ghost use Rattle.cfb.specs.Views.{letters_in, mini_of, FileRests};
-ghost use Rattle.cfb_fat.specs.Tables.{HasCauseBelow};
-ghost use Rattle.cfb_medium.specs.Calls.{IsFaultUnless};
+ghost use Rattle.cfb.specs.Streams.{FileHoldsTree};
+ghost use Rattle.cfb.specs.Views.{file_case_table, mini_of, OnlyReadsFile};
+ghost use Rattle.cfb_fat.specs.Tables.{IsJustifiedBySectors};
+ghost use Rattle.cfb_medium.specs.Calls.{IsFaultOrInvalidInputIf};
 ghost use Rattle.cfb_medium.specs.declared.error.Error.TheVariants.{Memory};
 ghost use Rattle.cfb_mini.specs.Views.{allocator_of};
 ghost use Rattle.cfb_tree.specs.Tree.{Tree};
@@ -23,7 +23,7 @@ use std::slice;
 pub fn misnamed_tables(alloc: Global, tables: &[Rc<Table>]) -> Result<Vec<Rc<Table>>, Error>
     ensures found { IfOk result (λ found. headings_in found.items
         ≡ misnamed (headings_in tables.now)) }
-    ensures kinds { IfErr result (λ e. e ≡ Memory) }
+    ensures errors { IfErr result (λ e. e ≡ Memory) }
 {
     let mut found = Vec::new(alloc);
     for table in tables {
@@ -41,12 +41,12 @@ pub fn unread_tables<F: ReadMedium>(
     file: &mut CompoundFile<F>,
     tables: &[Rc<Table>],
 ) -> Result<Vec<Rc<Table>>, Error>
-    ensures told { (tree : Tree) → FileHolds file.old tree → IfOk result (λ found.
-        headings_in found.items ≡ unread (letters_in file.old) tree (headings_in tables.now)) }
-    ensures rests { FileRests file.old file.new }
-    ensures cause { IfErr result (HasCauseBelow (allocator_of (mini_of file.old))
+    ensures answer { (tree : Tree) → FileHoldsTree file.old tree → IfOk result (λ found.
+        headings_in found.items ≡ unread (file_case_table file.old) tree (headings_in tables.now)) }
+    ensures only_reads { OnlyReadsFile file.old file.new }
+    ensures cause { IfErr result (IsJustifiedBySectors (allocator_of (mini_of file.old))
         (allocator_of (mini_of file.new))) }
-    ensures fault { IfErr result (IsFaultUnless ⊥) }
+    ensures errors { IfErr result (IsFaultOrInvalidInputIf ⊥) }
 {
     let mut found = Vec::new(alloc);
     for table in tables {
@@ -65,14 +65,14 @@ fn note<F: ReadMedium>(
     table: &Rc<Table>,
     found: &mut Vec<Rc<Table>>,
 ) -> Result<(), Error>
-    ensures told { (tree : Tree) → FileHolds file.old tree
+    ensures answer { (tree : Tree) → FileHoldsTree file.old tree
         → OnOk result (headings_in found.new.items
-        ≡ headings_in found.old.items ++ unread (letters_in file.old) tree
+        ≡ headings_in found.old.items ++ unread (file_case_table file.old) tree
         (headings_in (table.now ∷ []))) }
-    ensures rests { FileRests file.old file.new }
-    ensures cause { IfErr result (HasCauseBelow (allocator_of (mini_of file.old))
+    ensures only_reads { OnlyReadsFile file.old file.new }
+    ensures cause { IfErr result (IsJustifiedBySectors (allocator_of (mini_of file.old))
         (allocator_of (mini_of file.new))) }
-    ensures fault { IfErr result (IsFaultUnless ⊥) }
+    ensures errors { IfErr result (IsFaultOrInvalidInputIf ⊥) }
 {
     match rows_of_table(alloc, file, table) {
         Ok(_rows) => Ok(()),
@@ -85,7 +85,7 @@ fn note<F: ReadMedium>(
 fn add(found: &mut Vec<Rc<Table>>, table: &Rc<Table>) -> Result<(), Error>
     ensures added { OnOk result (headings_in found.new.items ≡ headings_in found.old.items
         ++ headings_in (table.now ∷ [])) }
-    ensures kinds { IfErr result (λ e. e ≡ Memory) }
+    ensures errors { IfErr result (λ e. e ≡ Memory) }
 {
     found.push(table.clone()?)?;
     Ok(())

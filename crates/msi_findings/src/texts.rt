@@ -2,7 +2,7 @@
 ghost use Rattle.std.specs.Prelude.{◌≡◌, ◌++◌, ◌<◌, ◌^◌, length, IfErr, IfOk, OnOk};
 ghost use Rattle.cfb_medium.specs.declared.error.Error.TheVariants.{Memory};
 ghost use Rattle.msi_findings.specs.Findings.{unused, unused_places};
-ghost use Rattle.msi_pool.specs.Pool.{at_place};
+ghost use Rattle.msi_pool.specs.Pool.{pool_entry_at};
 
 use cfb_medium::Error;
 use msi_pool::{StringPool, StringRef};
@@ -13,7 +13,7 @@ use std::alloc::{AllocError, Global};
 pub fn unused_texts(alloc: Global, pool: &StringPool) -> Result<Vec<u32>, Error>
     requires { length pool.now.pool.places < 2 ^ 24 }
     ensures found { IfOk result (λ found. found.items ≡ unused_places pool.now.pool.places) }
-    ensures kinds { IfErr result (λ e. e ≡ Memory) }
+    ensures errors { IfErr result (λ e. e ≡ Memory) }
 {
     let mut found = Vec::new(alloc);
     for index in 0..pool.num_strings() {
@@ -26,7 +26,7 @@ pub fn unused_texts(alloc: Global, pool: &StringPool) -> Result<Vec<u32>, Error>
 fn note(found: &mut Vec<u32>, pool: &StringPool, place: u32) -> Result<(), AllocError>
     requires { (0 < place) × (place < 2 ^ 24) }
     ensures { OnOk result (found.new.items ≡ found.old.items
-        ++ unused place (at_place pool.now.pool.places place)) }
+        ++ unused place (pool_entry_at pool.now.pool.places place)) }
 {
     if pool.refcount(StringRef::new(place)) != 0 {
         return Ok(());

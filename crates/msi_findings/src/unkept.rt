@@ -1,14 +1,14 @@
 //! Texts of the string pool that its page doesn't give back.
 ghost use Rattle.std.specs.Prelude.{◌≡◌, ◌↔◌, ◌<◌, ◌^◌, [], length, true, IfErr, IfOk};
-ghost use Rattle.cfb.specs.Streams.{FileHolds};
-ghost use Rattle.cfb.specs.Views.{letters_in, mini_of, FileRests};
-ghost use Rattle.cfb_fat.specs.Tables.{HasCauseBelow};
+ghost use Rattle.cfb.specs.Streams.{FileHoldsTree};
+ghost use Rattle.cfb.specs.Views.{file_case_table, mini_of, OnlyReadsFile};
+ghost use Rattle.cfb_fat.specs.Tables.{IsJustifiedBySectors};
 ghost use Rattle.cfb_mini.specs.Views.{allocator_of};
 ghost use Rattle.cfb_tree.specs.Tree.{Tree};
-ghost use Rattle.msi_parts.specs.Held.{AreHeld};
+ghost use Rattle.msi_parts.specs.Held.{ArePartsOfTree};
 ghost use Rattle.msi_parts.specs.declared.parts.PackageParts.{PackageParts};
-ghost use Rattle.msi_stored.specs.Reading.{IsOpeningError, TellsOrFault};
-ghost use Rattle.msi_texts.specs.Results.{Answers};
+ghost use Rattle.msi_stored.specs.Reading.{IsOpeningError, ReturnsOrFault};
+ghost use Rattle.msi_texts.specs.Results.{ReturnsOrOutOfMemory};
 ghost use Rattle.msi_findings.specs.Unkept.{pool_heads, unkept_at, unkept_behind, unkept_texts};
 
 use crate::giving::gives_back;
@@ -26,15 +26,16 @@ pub fn unkept_texts<F: ReadMedium>(
     alloc: Global,
     file: &mut CompoundFile<F>,
 ) -> Result<Vec<u32>, Error>
-    ensures told { (tree : Tree) → FileHolds file.old tree → TellsOrFault (λ found. found.items)
-        (unkept_texts (letters_in file.old) tree) result }
-    ensures none { (tree : Tree) (parts : PackageParts) → FileHolds file.old tree
-        → AreHeld (letters_in file.old) tree parts
+    ensures answer { (tree : Tree) → FileHoldsTree file.old tree
+        → ReturnsOrFault (λ found. found.items)
+        (unkept_texts (file_case_table file.old) tree) result }
+    ensures none { (tree : Tree) (parts : PackageParts) → FileHoldsTree file.old tree
+        → ArePartsOfTree (file_case_table file.old) tree parts
         → IfOk result (λ found. (found.items ≡ []) ↔ (parts.gives_back ≡ true)) }
-    ensures rests { FileRests file.old file.new }
-    ensures cause { IfErr result (HasCauseBelow (allocator_of (mini_of file.old))
+    ensures only_reads { OnlyReadsFile file.old file.new }
+    ensures cause { IfErr result (IsJustifiedBySectors (allocator_of (mini_of file.old))
         (allocator_of (mini_of file.new))) }
-    ensures kinds { IfErr result IsOpeningError }
+    ensures errors { IfErr result IsOpeningError }
 {
     match heads_of_pool(alloc, file) {
         Ok((codepage, heads)) => unkept_behind(alloc, file, codepage, &heads),
@@ -47,14 +48,14 @@ fn heads_of_pool<F: ReadMedium>(
     alloc: Global,
     file: &mut CompoundFile<F>,
 ) -> Result<(CodePage, Vec<(u32, u16)>), Error>
-    ensures told { (tree : Tree) → FileHolds file.old tree
-        → TellsOrFault (λ pool. (pool.0, pool.1.items))
-        (pool_heads (letters_in file.old) tree) result }
+    ensures answer { (tree : Tree) → FileHoldsTree file.old tree
+        → ReturnsOrFault (λ pool. (pool.0, pool.1.items))
+        (pool_heads (file_case_table file.old) tree) result }
     ensures few { IfOk result (λ pool. length pool.1.items < 2 ^ 32) }
-    ensures rests { FileRests file.old file.new }
-    ensures cause { IfErr result (HasCauseBelow (allocator_of (mini_of file.old))
+    ensures only_reads { OnlyReadsFile file.old file.new }
+    ensures cause { IfErr result (IsJustifiedBySectors (allocator_of (mini_of file.old))
         (allocator_of (mini_of file.new))) }
-    ensures kinds { IfErr result IsOpeningError }
+    ensures errors { IfErr result IsOpeningError }
 {
     match table_bytes(alloc, file, "_StringPool") {
         Ok(Some(bytes)) => read_pool(alloc, &bytes),
@@ -71,12 +72,13 @@ fn unkept_behind<F: ReadMedium>(
     heads: &[(u32, u16)],
 ) -> Result<Vec<u32>, Error>
     requires { length heads.now < 2 ^ 32 }
-    ensures told { (tree : Tree) → FileHolds file.old tree → TellsOrFault (λ found. found.items)
-        (unkept_behind (letters_in file.old) tree codepage heads.now) result }
-    ensures rests { FileRests file.old file.new }
-    ensures cause { IfErr result (HasCauseBelow (allocator_of (mini_of file.old))
+    ensures answer { (tree : Tree) → FileHoldsTree file.old tree
+        → ReturnsOrFault (λ found. found.items)
+        (unkept_behind (file_case_table file.old) tree codepage heads.now) result }
+    ensures only_reads { OnlyReadsFile file.old file.new }
+    ensures cause { IfErr result (IsJustifiedBySectors (allocator_of (mini_of file.old))
         (allocator_of (mini_of file.new))) }
-    ensures kinds { IfErr result IsOpeningError }
+    ensures errors { IfErr result IsOpeningError }
 {
     match table_bytes(alloc, file, "_StringData") {
         Ok(Some(bytes)) => unkept_places(alloc, codepage, heads, &bytes),
@@ -93,7 +95,8 @@ fn unkept_places(
     bytes: &[u8],
 ) -> Result<Vec<u32>, Error>
     requires { length heads.now < 2 ^ 32 }
-    ensures { Answers (λ found. found.items) result (unkept_at codepage heads.now bytes.now) }
+    ensures { ReturnsOrOutOfMemory (λ found. found.items) result
+        (unkept_at codepage heads.now bytes.now) }
 {
     let mut rest = bytes;
     let mut found = Vec::new(alloc);

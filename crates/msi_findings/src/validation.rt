@@ -23,7 +23,7 @@ pub fn misshapen_validation(alloc: Global, tables: &[Rc<Table>]) -> Result<Vec<u
         ≡ misshapen (heading_named (headings_in tables.now) validation_name)) }
     ensures none { IfOk result (λ found. (found.items ≡ [])
         ↔ IfSome (heading_named (headings_in tables.now) validation_name) IsUsual) }
-    ensures kinds { IfErr result (λ e. e ≡ Memory) }
+    ensures errors { IfErr result (λ e. e ≡ Memory) }
 {
     let wanted = validation_columns(alloc)?;
     match table_named(tables, "_Validation") {
@@ -40,7 +40,7 @@ fn unlike_positions(
 ) -> Result<Vec<usize>, Error>
     ensures found { IfOk result (λ found. found.items
         ≡ unlike_from 1 (columns_of columns.now) (columns_of wanted.now)) }
-    ensures kinds { IfErr result (λ e. e ≡ Memory) }
+    ensures errors { IfErr result (λ e. e ≡ Memory) }
 {
     let mut found = Vec::new(alloc);
     for index in 0..columns.len().max(wanted.len()) {

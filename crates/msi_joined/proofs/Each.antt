@@ -7,23 +7,23 @@ use Rattle.std.proofs.lemmas.List.Elements.{All-tail}
 use Rattle.cfb_medium.specs.declared.error.Error.{Error}
 use Rattle.msi_changes.specs.Changes.{inserted}
 use Rattle.msi_changes.specs.Laws.{RowsAreCounted}
-use Rattle.msi_pool.specs.Pool.{Pool, at_place}
+use Rattle.msi_pool.specs.Pool.{Pool, pool_entry_at}
 use Rattle.msi_pool.specs.Refs.{is_counted}
 use Rattle.msi_pool.specs.declared.stringref.ValueRef.{ValueRef}
 use Rattle.msi_pool.specs.declared.stringref.ValueRef.TheVariants as cell
 use Rattle.msi_tables.specs.Rows.{Row}
 use Rattle.msi_tables.specs.Table.{table_named, IsStoredByKeys, Table}
 use Rattle.msi_values.specs.Datum.{Datum}
-use Rattle.msi_meaning.specs.Calls.{changed, may_insert, rows_put, stored_rows, with_rows, Change, Inserts, PackagePuts, Ends}
-use Rattle.msi_meaning.specs.Package.{Packed}
-use Rattle.msi_meaning.specs.Sound.{IsUsed}
-use Rattle.msi_meaning.specs.Uses.{TextsAreCounted}
+use Rattle.msi_spec.specs.Calls.{changed, may_insert, rows_put, stored_rows, with_rows, Change, Inserts, PackagePuts, EndsRefusedOrBy}
+use Rattle.msi_spec.specs.Package.{PackageContent}
+use Rattle.msi_spec.specs.Sound.{IsPlaceUsed}
+use Rattle.msi_spec.specs.Uses.{RefcountsAreExact}
 use Rattle.msi_joined.proofs.Splitting.{split}
 use Rattle.msi_joined.specs.Joined.{joined_rows, InsertsEach}
 
 -- ---- an insert that is done, taken apart
 
-record Done (P : Packed) (name : List ℕ) (new_rows : List (List Datum)) (Q : Packed) : Type 0 where
+record Done (P : PackageContent) (name : List ℕ) (new_rows : List (List Datum)) (Q : PackageContent) : Type 0 where
   pub table : Table
   pub found : table_named P.tables name ≡ Some table
   pub after : List Row × Pool
@@ -32,14 +32,14 @@ record Done (P : Packed) (name : List ℕ) (new_rows : List (List Datum)) (Q : P
   pub by_keys : IsStoredByKeys after.1 table.columns after.0 stored
   pub puts : Q ≡ record P { pool = after.1; tables = rows_put name stored P.tables }
 
-module _ (P : Packed) (name : List ℕ) (new_rows : List (List Datum)) (Q : Packed) where
+module _ (P : PackageContent) (name : List ℕ) (new_rows : List (List Datum)) (Q : PackageContent) where
   abbrev asked : Table → Result (List Row × Pool) Error
   asked t = inserted (may_insert name) P.pool t new_rows
 
   abbrev Accepted : Change → Type 0
   Accepted x = (stored : List Row) × IsStoredByKeys x.pool x.table.columns x.rows stored × PackagePuts P name x stored Q
 
-  of_rows : (t : Table) → table_named P.tables name ≡ Some t → (r : Result (List Row × Pool) Error) → asked t ≡ r → Ends (changed t r) P Q (Ok tt) Accepted → Done P name new_rows Q
+  of_rows : (t : Table) → table_named P.tables name ≡ Some t → (r : Result (List Row × Pool) Error) → asked t ≡ r → EndsRefusedOrBy (changed t r) P Q (Ok tt) Accepted → Done P name new_rows Q
   of_rows t found (Ok x) is ends = record { table = t; found = found; after = x; is = is; stored = ends.1.0; by_keys = ends.1.1; puts = ends.1.2 }
   of_rows t found (Err e) is ends = absurd (let never = ends.1 in cc never)
 
@@ -76,17 +76,17 @@ module _ (name : List ℕ) (rows : List Row) where
 
 -- ---- two inserts
 
-record Two (P : Packed) (name : List ℕ) (front back : List (List Datum)) (Q : Packed) : Type 0 where
-  pub mid : Packed
+record Two (P : PackageContent) (name : List ℕ) (front back : List (List Datum)) (Q : PackageContent) : Type 0 where
+  pub mid : PackageContent
   pub first : Inserts P name front mid (Ok tt)
   pub second : Inserts mid name back Q (Ok tt)
   pub counted : RowsAreCounted mid.pool (stored_rows mid name)
 
-two : (P : Packed) (name : List ℕ) (front back : List (List Datum)) (Q : Packed) → RowsAreCounted P.pool (stored_rows P name) → Done P name (front ++ back) Q → Two P name front back Q
+two : (P : PackageContent) (name : List ℕ) (front back : List (List Datum)) (Q : PackageContent) → RowsAreCounted P.pool (stored_rows P name) → Done P name (front ++ back) Q → Two P name front back Q
 two P name front back Q counted d =
     let own : RowsAreCounted P.pool d.table.rows = subst (λ o. RowsAreCounted P.pool (unwrap_or (option_map (λ (t : Table). t.rows) o) [])) d.found counted in
     let s = split (may_insert name) P.pool d.table front back own d.after d.is d.stored d.by_keys in
-    let mid : Packed = record P { pool = s.mid; tables = rows_put name s.between P.tables } in
+    let mid : PackageContent = record P { pool = s.mid; tables = rows_put name s.between P.tables } in
     let found : table_named mid.tables name ≡ Some (record d.table { rows = s.between }) = put_found name s.between P.tables d.table d.found in
     record {
       mid = mid;
@@ -105,7 +105,7 @@ two P name front back Q counted d =
 
 -- ---- any number
 
-each_of : (P : Packed) (name : List ℕ) (first : List (List Datum)) (more : List (List (List Datum))) (Q : Packed) → RowsAreCounted P.pool (stored_rows P name) → Inserts P name (first ++ joined_rows more) Q (Ok tt) → InsertsEach P name (first ∷ more) Q
+each_of : (P : PackageContent) (name : List ℕ) (first : List (List Datum)) (more : List (List (List Datum))) (Q : PackageContent) → RowsAreCounted P.pool (stored_rows P name) → Inserts P name (first ++ joined_rows more) Q (Ok tt) → InsertsEach P name (first ∷ more) Q
 each_of P name first [] Q counted done = (Q, subst (λ rows. Inserts P name rows Q (Ok tt)) (append-nil first) done, refl)
 each_of P name first (next ∷ more) Q counted done =
     let it = two P name first (joined_rows (next ∷ more)) Q counted (taken P name (first ++ joined_rows (next ∷ more)) Q done) in
@@ -117,22 +117,22 @@ all_pass : {X : Type 0} (Has : X → Type 0) (p : X → Bool) → ((x : X) → H
 all_pass Has p each [] all = refl
 all_pass Has p each (x ∷ xs) all = rw (each x (all 0 x (omega arith))) (all_pass Has p each xs (All-tail Has x xs all))
 
-used_counted : (pool : Pool) (v : ValueRef) → IsUsed pool v → is_counted pool v ≡ true
+used_counted : (pool : Pool) (v : ValueRef) → IsPlaceUsed pool v → is_counted pool v ≡ true
 used_counted pool cell.Null used = refl
 used_counted pool (cell.Int z) used = refl
-used_counted pool (cell.Str n) used = some (at_place pool.places n).count used
+used_counted pool (cell.Str n) used = some (pool_entry_at pool.places n).count used
   where
     some : (k : ℕ) → 0 < k → not (k == 0) ≡ true
     some k h = grind (arith, nat_tests, h)
 used_counted pool cell.Binary used = refl
 
-table_counted : (pool : Pool) (name : List ℕ) (ts : List Table) → All (λ t. All (All (IsUsed pool)) t.rows) ts → RowsAreCounted pool (unwrap_or (option_map (λ (t : Table). t.rows) (table_named ts name)) [])
+table_counted : (pool : Pool) (name : List ℕ) (ts : List Table) → All (λ t. All (All (IsPlaceUsed pool)) t.rows) ts → RowsAreCounted pool (unwrap_or (option_map (λ (t : Table). t.rows) (table_named ts name)) [])
 table_counted pool name [] all = refl
-table_counted pool name (u ∷ us) all = on (bytes_eq u.name name) (table_counted pool name us (All-tail (λ t. All (All (IsUsed pool)) t.rows) u us all))
+table_counted pool name (u ∷ us) all = on (bytes_eq u.name name) (table_counted pool name us (All-tail (λ t. All (All (IsPlaceUsed pool)) t.rows) u us all))
   where
     on : (b : Bool) → RowsAreCounted pool (unwrap_or (option_map (λ (t : Table). t.rows) (table_named us name)) []) → RowsAreCounted pool (unwrap_or (option_map (λ (t : Table). t.rows) (cond b (Some u) (table_named us name))) [])
-    on true deeper = all_pass (All (IsUsed pool)) (λ row. list_all (is_counted pool) row) (λ row. all_pass (IsUsed pool) (is_counted pool) (used_counted pool) row) u.rows (all 0 u (omega arith))
+    on true deeper = all_pass (All (IsPlaceUsed pool)) (λ row. list_all (is_counted pool) row) (λ row. all_pass (IsPlaceUsed pool) (is_counted pool) (used_counted pool) row) u.rows (all 0 u (omega arith))
     on false deeper = deeper
 
-pub each : (P : Packed) → TextsAreCounted P.pool P.tables → (name : List ℕ) (first : List (List Datum)) (more : List (List (List Datum))) (Q : Packed) → Inserts P name (joined_rows (first ∷ more)) Q (Ok tt) → InsertsEach P name (first ∷ more) Q
+pub each : (P : PackageContent) → RefcountsAreExact P.pool P.tables → (name : List ℕ) (first : List (List Datum)) (more : List (List (List Datum))) (Q : PackageContent) → Inserts P name (joined_rows (first ∷ more)) Q (Ok tt) → InsertsEach P name (first ∷ more) Q
 each P counted name first more Q done = each_of P name first more Q (table_counted P.pool name P.tables counted.references) done

@@ -15,7 +15,7 @@ pub fn joined_with(alloc: Global, insert: Insert, other: &Insert) -> Result<Inse
     ensures name { IfOk result (λ all. insert_name all ≡ insert_name insert) }
     ensures rows { IfOk result (λ all. insert_rows all
         ≡ insert_rows insert ++ insert_rows other.now) }
-    ensures kinds { IfErr result (λ e. e ≡ Memory) }
+    ensures errors { IfErr result (λ e. e ≡ Memory) }
 {
     let rows = match copies_of(alloc, other.new_rows()) {
         Ok(rows) => rows,
@@ -28,7 +28,7 @@ pub fn joined_with(alloc: Global, insert: Insert, other: &Insert) -> Result<Inse
 fn copies_of(alloc: Global, rows: &[Vec<Value>]) -> Result<Vec<Vec<Value>>, Error>
     ensures copies { IfOk result (λ copies. map (λ row. data_of row.items) copies.items
         ≡ map (λ row. data_of row.items) rows.now) }
-    ensures kinds { IfErr result (λ e. e ≡ Memory) }
+    ensures errors { IfErr result (λ e. e ≡ Memory) }
 {
     let mut copies = Vec::new(alloc);
     for row in rows {
@@ -40,7 +40,7 @@ fn copies_of(alloc: Global, rows: &[Vec<Value>]) -> Result<Vec<Vec<Value>>, Erro
 // A copy of one row. The one error is `Memory`.
 fn copy_of(alloc: Global, row: &[Value]) -> Result<Vec<Value>, Error>
     ensures copy { IfOk result (λ copy. data_of copy.items ≡ data_of row.now) }
-    ensures kinds { IfErr result (λ e. e ≡ Memory) }
+    ensures errors { IfErr result (λ e. e ≡ Memory) }
 {
     let mut copy = Vec::new(alloc);
     for value in row {

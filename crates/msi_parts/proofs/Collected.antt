@@ -3,13 +3,13 @@ use Rattle.std.proofs.Common.{◌≡◌, ◌∙◌, true, Bool, List, map, ap}
 use Rattle.std.specs.Prelude.{Ok, Result}
 use Rattle.cfb_medium.specs.declared.error.Error.{Error}
 use Rattle.cfb_medium.specs.declared.error.Error.TheVariants.{InvalidData, NotFound}
-use Rattle.cfb_tree.specs.Names.{Letters}
+use Rattle.cfb_tree.specs.Names.{CaseTable}
 use Rattle.cfb_tree.specs.Tree.{Tree}
-use Rattle.msi_meaning.proofs.OpenedIs.{kind_back}
-use Rattle.msi_meaning.specs.Opening.{kind_of, may_use, opened, summary_read}
+use Rattle.msi_spec.proofs.OpenedIs.{kind_back}
+use Rattle.msi_spec.specs.Opening.{kind_of, keeps_encoded_names, opened, summary_read}
 use Rattle.msi_parts.proofs.OpenedParts.{all_found}
-use Rattle.msi_meaning.specs.Package.{class_of}
-use Rattle.msi_meaning.specs.declared.kind.PackageType.{PackageType}
+use Rattle.msi_spec.specs.Package.{class_of}
+use Rattle.msi_spec.specs.declared.kind.PackageType.{PackageType}
 use Rattle.msi_parts.specs.Parts.{AreParts, HasSchema, IsBegun, IsBuilt, IsSummary, builder_in, built_in, schema_in, summary_in}
 use Rattle.msi_pool.specs.Pool.{Pool}
 use Rattle.msi_pool.specs.PoolReading.{Begun, begun, pool_of}
@@ -23,7 +23,7 @@ chain : {A B C D : Type 0} {r : Result A Error} {s : Result B Error} {t : Result
     → (r >>= λ x. s >>= λ y. t >>= λ z. u x y z) ≡ u a b c
 chain {s = s} {t = t} {a = a} {b = b} er es et u = ap (λ m. m >>= λ x. s >>= λ y. t >>= λ z. u x y z) er ∙ ap (λ m. m >>= λ y. t >>= λ z. u a y z) es ∙ ap (λ m. m >>= λ z. u a b z) et
 
-module _ (letters : Letters) (tree : Tree) where
+module _ (letters : CaseTable) (tree : Tree) where
   pub summary_is : (s : SetState) → IsSummary letters tree s → summary_in letters tree ≡ Ok s.props
   summary_is s h = ap (λ o. or_refused o NotFound >>= summary_read) h.at ∙ h.read
 
@@ -77,7 +77,7 @@ module _ (letters : Letters) (tree : Tree) where
   }
 
   -- so opening answers with them
-  pub opened_is : may_use letters ≡ true → (kind : PackageType) (s : SetState) (p : Pool) (gives_back : Bool) (headings : List Heading) → AreParts letters tree kind s p gives_back headings
+  pub opened_is : keeps_encoded_names letters ≡ true → (kind : PackageType) (s : SetState) (p : Pool) (gives_back : Bool) (headings : List Heading) → AreParts letters tree kind s p gives_back headings
       → opened letters tree ≡ Ok (kind, (s.props, p))
   opened_is may kind s p gives_back headings a =
       let parts = a.parts in

@@ -5,24 +5,24 @@ use Rattle.std.specs.List.{list_all}
 use Rattle.std.specs.List.Sorted.{IsStrictlySortedBy}
 use Rattle.std.proofs.lemmas.Bool.{and_parts}
 use Rattle.std.proofs.lemmas.List.Elements.{All-cons, All-head, All-tail}
-use Rattle.cfb_meaning.specs.TreeRules.{Object, is_same_name}
-use Rattle.cfb_meaning.specs.TreeRules.{name_of as object_name}
-use Rattle.cfb_tree.specs.Names.{Letters}
+use Rattle.cfb_spec.specs.TreeRules.{Object, is_same_name}
+use Rattle.cfb_spec.specs.TreeRules.{name_of as object_name}
+use Rattle.cfb_tree.specs.Names.{CaseTable}
 use Rattle.cfb_tree.specs.Tree.{Tree}
-use Rattle.msi_meaning.proofs.PackedFrom.{packed_from}
-use Rattle.msi_meaning.proofs.PacksOnce.{ok_same, some_same}
-use Rattle.msi_meaning.proofs.SoundAnyway.{sound_anyway, sound_so}
-use Rattle.msi_meaning.specs.Known.{HaveColumns, HaveRows, is_named, package_with}
-use Rattle.msi_meaning.specs.Opening.{may_use}
-use Rattle.msi_meaning.specs.Package.{Packed, Packs, at_name, data_name, is_own, is_stream, objects, pool_name, stream_at, stream_name, summary_name, table_name_cmp, table_stream}
-use Rattle.msi_meaning.specs.Sound.{IsSoundPackage, is_free_table_name}
-use Rattle.msi_meaning.specs.SoundParts.{IsSound}
-use Rattle.msi_meaning.specs.declared.kind.PackageType.{PackageType}
+use Rattle.msi_spec.proofs.PackedFrom.{packed_from}
+use Rattle.msi_spec.proofs.PacksOnce.{ok_same, some_same}
+use Rattle.msi_spec.proofs.SoundAnyway.{sound_anyway, sound_so}
+use Rattle.msi_spec.specs.Known.{HaveColumns, HaveRows, is_named, package_with}
+use Rattle.msi_spec.specs.Opening.{keeps_encoded_names}
+use Rattle.msi_spec.specs.Package.{PackageContent, TreePacksPackage, at_name, data_name, is_own, is_stream, objects, pool_name, stream_at, stream_name, summary_name, table_name_cmp, table_stream}
+use Rattle.msi_spec.specs.Sound.{IsSoundPackage, is_free_table_name}
+use Rattle.msi_spec.specs.SoundParts.{HasSoundParts}
+use Rattle.msi_spec.specs.declared.kind.PackageType.{PackageType}
 use Rattle.msi_parts.proofs.Memory.{memory_is}
-use Rattle.msi_meaning.specs.Uses.{TextsAreCounted}
+use Rattle.msi_spec.specs.Uses.{RefcountsAreExact}
 use Rattle.msi_parts.proofs.Marked.{summary_differs}
 use Rattle.msi_parts.specs.Judged.{IsJudged, IsUnlisted, IsUsual, are_free_names, heading_named, is_in_place, is_under, table_streams}
-use Rattle.msi_parts.specs.Parts.{AreParts, IsMemoryOf, heading}
+use Rattle.msi_parts.specs.Parts.{AreParts, MemoryIsPackage, heading}
 use Rattle.msi_pool.specs.PoolKept.{AreFreeEmpty}
 use Rattle.msi_pool.specs.Pool.{Pool}
 use Rattle.msi_pool.specs.PoolReading.{Begun, begun, texts_give_back as pool_texts_give_back}
@@ -119,7 +119,7 @@ not_true : (b : Bool) → not b ≡ true → b ≡ false
 not_true true e = absurd (cc)
 not_true false e = refl
 
-module _ (letters : Letters) where
+module _ (letters : CaseTable) where
   -- a name that no object has is found at none
   unfound : (name : List ℕ) (os : List Object) → All (λ o. is_same_name letters name (object_name o) ≡ false) os → at_name letters os name ≡ None
   unfound name [] h = refl
@@ -151,8 +151,8 @@ module _ (letters : Letters) where
 
 -- ---- the judgement
 
-module _ (letters : Letters) (tree : Tree) (kind : PackageType) (summary : SetState) (pool : Pool) (gives_back : Bool) (headings : List Heading)
-    (a : AreParts letters tree kind summary pool gives_back headings) (may : may_use letters ≡ true) where
+module _ (letters : CaseTable) (tree : Tree) (kind : PackageType) (summary : SetState) (pool : Pool) (gives_back : Bool) (headings : List Heading)
+    (a : AreParts letters tree kind summary pool gives_back headings) (may : keeps_encoded_names letters ≡ true) where
   -- what the streams of pool and summary give back was judged
   pool_gives : gives_back ≡ true → (pool_bytes data_bytes : List ℕ) (builder : Begun) → table_stream letters (objects tree.content) pool_name ≡ Some pool_bytes
       → table_stream letters (objects tree.content) data_name ≡ Some data_bytes → begun pool_bytes ≡ Ok builder → pool_texts_give_back builder data_bytes ≡ Ok true
@@ -169,7 +169,7 @@ module _ (letters : Letters) (tree : Tree) (kind : PackageType) (summary : SetSt
     abbrev ts : List Table
     ts = j.rows.tables
 
-    abbrev P : Packed
+    abbrev P : PackageContent
     P = package_with letters tree kind summary.props pool ts
 
     -- headings of these tables
@@ -186,7 +186,7 @@ module _ (letters : Letters) (tree : Tree) (kind : PackageType) (summary : SetSt
           (subst (λ (hs : List Heading). All (λ h. columns_in (map (row_data pool) a.parts.columns) (map (row_data pool) a.parts.validation) h.name ≡ Some h.columns) hs) (sym j.rows.same) a.described.known);
     }
 
-    packs : Packs letters tree P
+    packs : TreePacksPackage letters tree P
     packs = packed_from letters tree kind summary.props pool a.parts ts known j.rows.rows
 
     -- the test of each object, over the names of tables
@@ -215,7 +215,7 @@ module _ (letters : Letters) (tree : Tree) (kind : PackageType) (summary : SetSt
     usual : IfSome (option_map (heading pool.long) (table_named ts validation_name)) IsUsual
     usual = subst (λ (o : Option Heading). IfSome o IsUsual) (ap (λ hs. heading_named hs validation_name) (sym j.rows.same) ∙ named_heading pool.long ts validation_name) j.usual
 
-    is_sound : IsSound letters tree P
+    is_sound : HasSoundParts letters tree P
     is_sound = record {
       counted = j.rows.counted;
       free = j.free;
@@ -235,14 +235,14 @@ module _ (letters : Letters) (tree : Tree) (kind : PackageType) (summary : SetSt
       gives_back = record { pool = pool_gives j.pool_whole; summary = summary_gives j.summary_whole };
     }
 
-    pub judged_sound : (Q : Packed) × (packed : Packs letters tree Q) × IsSoundPackage letters tree Q packed
+    pub judged_sound : (Q : PackageContent) × (packed : TreePacksPackage letters tree Q) × IsSoundPackage letters tree Q packed
     judged_sound = (P, packs, sound_so letters tree P packs is_sound)
 
-  module _ (P : Packed) (packs : Packs letters tree P) (sound : IsSoundPackage letters tree P packs) where
-    parts_sound : IsSound letters tree P
+  module _ (P : PackageContent) (packs : TreePacksPackage letters tree P) (sound : IsSoundPackage letters tree P packs) where
+    parts_sound : HasSoundParts letters tree P
     parts_sound = sound_anyway letters tree P packs sound
 
-    memory : IsMemoryOf kind summary.props pool headings P
+    memory : MemoryIsPackage kind summary.props pool headings P
     memory = memory_is letters tree kind summary pool gives_back headings a P packs
 
     -- the test of an object, by its kind
@@ -317,7 +317,7 @@ module _ (letters : Letters) (tree : Tree) (kind : PackageType) (summary : SetSt
         tables = P.tables;
         same = sym memory.tables;
         rows = subst (λ (q : Pool). HaveRows letters tree q P.tables) (sym memory.pool) packs.rows;
-        counted = subst (λ (q : Pool). TextsAreCounted q P.tables) (sym memory.pool) parts_sound.counted;
+        counted = subst (λ (q : Pool). RefcountsAreExact q P.tables) (sym memory.pool) parts_sound.counted;
         unlisted = subst (λ (q : Pool). IsUnlisted q P.tables) (sym memory.pool) parts_sound.named.not_listed;
       };
     }

@@ -5,15 +5,15 @@ use Rattle.std.specs.Char.Escape.{encode_utf16}
 use Rattle.std.specs.List.{flat_map, list_all}
 use Rattle.std.proofs.lemmas.Bool.{and_parts, lt-leb, ltb-false}
 use Rattle.cfb_tree.proofs.NameOrder.{name_cmp_equal}
-use Rattle.cfb_tree.specs.Names.{Letters, letter, name_key}
+use Rattle.cfb_tree.specs.Names.{CaseTable, letter, name_key}
 use Rattle.cfb_tree.specs.Objects.{is_same_name}
-use Rattle.msi_meaning.specs.Opening.{is_encoded, may_use}
-use Rattle.msi_meaning.specs.Package.{summary_name}
+use Rattle.msi_spec.specs.Opening.{is_encoded, keeps_encoded_names}
+use Rattle.msi_spec.specs.Package.{summary_name}
 use Rattle.msi_texts.specs.StreamName.{is_marked, table_prefix}
 use Rattle.msi_values.proofs.DataOrder.{is_equal}
 
 -- a character counts as one that is encoded exactly where it is encoded itself, and then as itself
-letter_kept : (letters : Letters) → may_use letters ≡ true → (c : ℕ) → is_encoded c ≡ true → letter letters c ≡ c
+letter_kept : (letters : CaseTable) → keeps_encoded_names letters ≡ true → (c : ℕ) → is_encoded c ≡ true → letter letters c ≡ c
 unfolding letter
 letter_kept [] may c is = refl
 letter_kept (pair ∷ pairs) may c is =
@@ -25,7 +25,7 @@ letter_kept (pair ∷ pairs) may c is =
     by true e out later = let same : c ≡ pair.0 = eqb-true c pair.0 e in let known : not true ≡ true = ap not (sym is ∙ ap is_encoded same) ∙ out in absurd (cc)
     by false e out later = later
 
-letter_out : (letters : Letters) → may_use letters ≡ true → (c : ℕ) → is_encoded c ≡ false → is_encoded (letter letters c) ≡ false
+letter_out : (letters : CaseTable) → keeps_encoded_names letters ≡ true → (c : ℕ) → is_encoded c ≡ false → is_encoded (letter letters c) ≡ false
 unfolding letter
 letter_out [] may c out = out
 letter_out (pair ∷ pairs) may c out =
@@ -65,7 +65,7 @@ first_of c rest = by (ltb c 0x1_0000) refl
     by false e = large e
 
 -- it isn't the summary
-pub summary_differs : (letters : Letters) → may_use letters ≡ true → (name : List ℕ) → is_marked name ≡ true → is_same_name letters summary_name name ≡ false
+pub summary_differs : (letters : CaseTable) → keeps_encoded_names letters ≡ true → (name : List ℕ) → is_marked name ≡ true → is_same_name letters summary_name name ≡ false
 unfolding name_key
 summary_differs letters may [] marked = absurd (cc)
 summary_differs letters may (c ∷ cs) marked = by (is_same_name letters summary_name (c ∷ cs)) refl

@@ -4,7 +4,7 @@ use Rattle.std.specs.Prelude.{◌||◌, Option, bytes_eq, option_map, All}
 use Rattle.std.specs.List.{list_any}
 use Rattle.std.proofs.lemmas.Cmp.{nat_list_cmp_total}
 use Rattle.std.proofs.lemmas.List.Elements.{All-tail}
-use Rattle.cfb_tree.specs.Names.{Letters}
+use Rattle.cfb_tree.specs.Names.{CaseTable}
 use Rattle.cfb_tree.specs.Tree.{Tree}
 use Rattle.msi_columns.specs.Column.{Column}
 use Rattle.msi_pool.specs.Pool.{Pool}
@@ -14,17 +14,17 @@ use Rattle.msi_tables.specs.Rows.{Row}
 use Rattle.msi_tables.specs.Table.{Heading, Table, row_data}
 use Rattle.msi_tables.specs.Schema.{begins_with, columns_columns, columns_in, columns_name, tables_columns, tables_name, validation_columns, validation_name}
 use Rattle.msi_values.specs.Datum.{Datum}
-use Rattle.msi_meaning.specs.Known.{is_named}
-use Rattle.msi_meaning.specs.Opening.{kind_of, summary_read}
-use Rattle.msi_meaning.specs.Package.{Packed, Packs, is_table_name, rows_named, table_name_cmp}
+use Rattle.msi_spec.specs.Known.{is_named}
+use Rattle.msi_spec.specs.Opening.{kind_of, summary_read}
+use Rattle.msi_spec.specs.Package.{PackageContent, TreePacksPackage, is_table_name, rows_named, table_name_cmp}
 use Rattle.cfb_medium.specs.declared.error.Error.TheVariants.{InvalidData}
-use Rattle.msi_meaning.specs.declared.kind.PackageType.{PackageType}
-use Rattle.msi_meaning.proofs.OpenedIs.{builder_finds, kind_back, summary_back}
-use Rattle.msi_meaning.proofs.PackedFrom.{found, some_rows}
-use Rattle.msi_meaning.proofs.PacksOnce.{ok_same, some_same}
-use Rattle.msi_meaning.proofs.SameNames.{same_lists}
-use Rattle.msi_meaning.proofs.SystemRows.{columns_rows, rows_at, tables_rows}
-use Rattle.msi_parts.specs.Parts.{AreParts, IsMemoryOf, heading}
+use Rattle.msi_spec.specs.declared.kind.PackageType.{PackageType}
+use Rattle.msi_spec.proofs.OpenedIs.{builder_finds, kind_back, summary_back}
+use Rattle.msi_spec.proofs.PackedFrom.{found, some_rows}
+use Rattle.msi_spec.proofs.PacksOnce.{ok_same, some_same}
+use Rattle.msi_spec.proofs.SameNames.{same_lists}
+use Rattle.msi_spec.proofs.SystemRows.{columns_rows, rows_at, tables_rows}
+use Rattle.msi_parts.specs.Parts.{AreParts, MemoryIsPackage, heading}
 
 -- those that are there
 abbrev present : List (Option Heading) → List Heading
@@ -45,8 +45,8 @@ told_of_tables long F (t ∷ ts) all =
     let here : F t.name ≡ Some (heading long t) = all 0 t (omega arith) in
     ap (λ o. present (o ∷ map F (map (λ u. u.name) ts))) here ∙ ap (λ us. heading long t ∷ us) (told_of_tables long F ts (All-tail (λ u. F u.name ≡ Some (heading long u)) t ts all))
 
-module _ (letters : Letters) (tree : Tree) (kind : PackageType) (summary : SetState) (pool : Pool) (gives_back : Bool) (headings : List Heading)
-    (a : AreParts letters tree kind summary pool gives_back headings) (P : Packed) (p : Packs letters tree P) where
+module _ (letters : CaseTable) (tree : Tree) (kind : PackageType) (summary : SetState) (pool : Pool) (gives_back : Bool) (headings : List Heading)
+    (a : AreParts letters tree kind summary pool gives_back headings) (P : PackageContent) (p : TreePacksPackage letters tree P) where
   pools : pool ≡ P.pool
   pools =
       let f = builder_finds p.pool_bytes p.data_bytes P.pool p.pool in
@@ -105,7 +105,7 @@ module _ (letters : Letters) (tree : Tree) (kind : PackageType) (summary : SetSt
       ∙ ap (λ rows. present (map (heading_at ds rows) (map (λ t. t.name) P.tables))) validation_same
       ∙ told_of_tables pool.long (heading_at ds ws) P.tables (λ k d below. table_told ds ws (get_or P.tables k d) (p.columns k d below))
 
-  pub memory_is : IsMemoryOf kind summary.props pool headings P
+  pub memory_is : MemoryIsPackage kind summary.props pool headings P
   memory_is = record {
     kind = ok_same kind P.kind (sym (kind_back kind) ∙ ap kind_of (sym a.parts.class ∙ p.class) ∙ kind_back P.kind);
     summary = ok_same summary.props P.summary

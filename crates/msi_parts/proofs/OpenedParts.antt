@@ -3,12 +3,12 @@ use Rattle.std.proofs.Common.{◌≡◌, ◌∙◌, true, map, refl, ap}
 use Rattle.std.specs.Prelude.{Result, Ok, Err}
 use Rattle.cfb_medium.specs.declared.error.Error.{Error}
 use Rattle.cfb_medium.specs.declared.error.Error.TheVariants.{InvalidData, InvalidInput}
-use Rattle.cfb_tree.specs.Names.{Letters}
+use Rattle.cfb_tree.specs.Names.{CaseTable}
 use Rattle.cfb_tree.specs.Tree.{Tree}
-use Rattle.msi_meaning.specs.Opening.{kind_of, may_use, opened, rows_by}
-use Rattle.msi_meaning.specs.Package.{objects}
-use Rattle.msi_meaning.specs.declared.kind.PackageType.{PackageType}
-use Rattle.msi_meaning.proofs.OpenedIs.{then_ok}
+use Rattle.msi_spec.specs.Opening.{kind_of, keeps_encoded_names, opened, rows_by}
+use Rattle.msi_spec.specs.Package.{objects}
+use Rattle.msi_spec.specs.declared.kind.PackageType.{PackageType}
+use Rattle.msi_spec.proofs.OpenedIs.{then_ok}
 use Rattle.msi_parts.specs.Parts.{builder_in, built_in, schema_in, summary_in}
 use Rattle.msi_pool.specs.Pool.{Pool}
 use Rattle.msi_pool.specs.PoolReading.{Begun}
@@ -28,7 +28,7 @@ nested (Ok a) (Err e) t u x = refl
 nested (Ok a) (Ok b) (Err e) u x = refl
 nested (Ok a) (Ok b) (Ok c) u x = refl
 
-module _ (letters : Letters) (tree : Tree) (may : may_use letters ≡ true) where
+module _ (letters : CaseTable) (tree : Tree) (may : keeps_encoded_names letters ≡ true) where
   -- from the schema on
   abbrev last : PackageType → Props → Pool → Result (PackageType × (Props × Pool)) Error
   last kind summary pool =
@@ -48,7 +48,7 @@ module _ (letters : Letters) (tree : Tree) (may : may_use letters ≡ true) wher
   from_summary kind = summary_in letters tree >>= from_builder kind
 
   begins : opened letters tree ≡ (kind_of tree.root.clsid >>= from_summary)
-  begins = then_ok (unless_not (may_use letters) InvalidInput) tt (λ _. kind_of tree.root.clsid >>= from_summary) (ap (λ b. unless_not b InvalidInput) may)
+  begins = then_ok (unless_not (keeps_encoded_names letters) InvalidInput) tt (λ _. kind_of tree.root.clsid >>= from_summary) (ap (λ b. unless_not b InvalidInput) may)
 
   last_is : (kind : PackageType) (summary : Props) (pool : Pool) → last kind summary pool ≡ (schema_in letters tree pool >>= λ _. Ok (kind, (summary, pool)))
   last_is kind summary pool =

@@ -7,13 +7,13 @@ use Rattle.cfb_medium.specs.declared.error.Error.{Error}
 use Rattle.cfb_medium.specs.declared.error.Error.TheVariants.{InvalidInput, NotFound}
 use Rattle.msi_pool.specs.declared.stringref.ValueRef.TheVariants as cell
 use Rattle.msi_columns.specs.Column.{Column, but_null, column_place, has_column, side_column}
-use Rattle.msi_expr.specs.Conditions.{knows, knows_condition, matches}
+use Rattle.msi_expr.specs.Conditions.{has_named_columns, knows_condition, matches}
 use Rattle.msi_expr.specs.Formula.{Formula}
 use Rattle.msi_pool.specs.Pool.{Pool}
 use Rattle.msi_query.specs.Query.{Query, Source, query, table, inner_join, left_join, cut, filtered, inner_joined, left_joined, nulls, or_once, pairs_with, parts_at, projected, selected, side_columns, source_rows}
 use Rattle.msi_tables.specs.Rows.{Row}
 use Rattle.msi_tables.specs.Table.{Table}
-use Rattle.msi_parts.specs.Whole.{IsWhole, Wide}
+use Rattle.msi_parts.specs.Whole.{HasFullRows, Wide}
 use Rattle.msi_texts.specs.Results.{◌>>=◌, or_refused}
 
 wide_filter : (n : ℕ) (keep : Row → Bool) (rows : List Row) → Wide n rows → Wide n (filter keep rows)
@@ -70,21 +70,21 @@ wide_parts : (places : List ℕ) (columns : List Column) (rows : List Row) → W
 wide_parts places columns [] w = tt
 wide_parts places columns (row ∷ rows) w = (parts_alike places row columns w.0, wide_parts places columns rows w.1)
 
-wide_projected : (names : List (List ℕ)) (t : Table) → IsWhole t → IsWhole (projected names t)
+wide_projected : (names : List (List ℕ)) (t : Table) → HasFullRows t → HasFullRows (projected names t)
 wide_projected [] t w = w
 wide_projected (n ∷ ns) t w = wide_parts (filter_map (column_place t.columns) (n ∷ ns)) t.columns t.rows w
 
-wide_cut : (pool : Pool) (names : List (List ℕ)) (condition : Option Formula) (t : Table) → IsWhole t → IfOk (cut pool names condition t) IsWhole
+wide_cut : (pool : Pool) (names : List (List ℕ)) (condition : Option Formula) (t : Table) → HasFullRows t → IfOk (cut pool names condition t) HasFullRows
 wide_cut pool names condition t w = by (list_all (has_column t.columns) names && knows_condition t.columns condition)
   where
-    found : IsWhole (projected names (filtered pool condition t))
+    found : HasFullRows (projected names (filtered pool condition t))
     found = wide_projected names (filtered pool condition t) (wide_filter (length t.columns) (matches pool t.columns condition) t.rows w)
 
-    by : (b : Bool) → IfOk (cond b (Ok (projected names (filtered pool condition t))) (Err InvalidInput)) IsWhole
+    by : (b : Bool) → IfOk (cond b (Ok (projected names (filtered pool condition t))) (Err InvalidInput)) HasFullRows
     by true = found
     by false = tt
 
-module _ (pool : Pool) (on : Formula) (l r : Table) (v : IsWhole l) (w : IsWhole r) where
+module _ (pool : Pool) (on : Formula) (l r : Table) (v : HasFullRows l) (w : HasFullRows r) where
   -- the rows that one row makes with those of the right side
   wide_pairs : (columns : List Column) (row : Row) → length row ≡ length l.columns → Wide (length l.columns + length r.columns) (pairs_with pool columns on r.rows row)
   wide_pairs columns row is =
@@ -120,10 +120,10 @@ module _ (pool : Pool) (on : Formula) (l r : Table) (v : IsWhole l) (w : IsWhole
   abbrev inner_rows : List Row
   inner_rows = flat_map (pairs_with pool inner_all on r.rows) l.rows
 
-  wide_inner : IfOk (inner_joined pool on l r) IsWhole
-  wide_inner = by (knows inner_all on)
+  wide_inner : IfOk (inner_joined pool on l r) HasFullRows
+  wide_inner = by (has_named_columns inner_all on)
     where
-      by : (b : Bool) → IfOk (cond b (Ok (record { name = []; columns = inner_all; rows = inner_rows })) (Err InvalidInput)) IsWhole
+      by : (b : Bool) → IfOk (cond b (Ok (record { name = []; columns = inner_all; rows = inner_rows })) (Err InvalidInput)) HasFullRows
       by true = subst (λ n. Wide n inner_rows) (sym inner_columns)
           (wide_flat (length l.columns + length r.columns) (pairs_with pool inner_all on r.rows) l.rows
           (of_wide (length l.columns) _ (wide_pairs inner_all) l.rows v))
@@ -135,10 +135,10 @@ module _ (pool : Pool) (on : Formula) (l r : Table) (v : IsWhole l) (w : IsWhole
   abbrev left_each : Row → List Row
   left_each row = or_once (row ++ nulls r.columns) (pairs_with pool left_all on r.rows row)
 
-  wide_left : IfOk (left_joined pool on l r) IsWhole
-  wide_left = by (knows left_all on)
+  wide_left : IfOk (left_joined pool on l r) HasFullRows
+  wide_left = by (has_named_columns left_all on)
     where
-      by : (b : Bool) → IfOk (cond b (Ok (record { name = []; columns = left_all; rows = flat_map left_each l.rows })) (Err InvalidInput)) IsWhole
+      by : (b : Bool) → IfOk (cond b (Ok (record { name = []; columns = left_all; rows = flat_map left_each l.rows })) (Err InvalidInput)) HasFullRows
       by true = subst (λ n. Wide n (flat_map left_each l.rows)) (sym left_columns)
           (wide_flat (length l.columns + length r.columns) left_each l.rows
           (of_wide (length l.columns) _ (wide_once left_all) l.rows v))
@@ -148,21 +148,21 @@ on_ok : {A B : Type 0} (P : A → Type 0) (Q : B → Type 0) (r : Result A Error
 on_ok P Q (Ok a) f h k = k a h
 on_ok P Q (Err e) f h k = tt
 
-module _ (tables : List ℕ → Option Table) (pool : Pool) (wide : (name : List ℕ) → IfSome (tables name) IsWhole) where
-  named : (o : Option Table) → IfSome o IsWhole → IfOk (or_refused o NotFound) IsWhole
+module _ (tables : List ℕ → Option Table) (pool : Pool) (wide : (name : List ℕ) → IfSome (tables name) HasFullRows) where
+  named : (o : Option Table) → IfSome o HasFullRows → IfOk (or_refused o NotFound) HasFullRows
   named None h = tt
   named (Some t) h = h
 
   mutual
     -- so has what a select answers
-    pub wide_selected : (q : Query) → IfOk (selected tables pool q) IsWhole
-    wide_selected (query source names condition) = on_ok IsWhole IsWhole (source_rows tables pool source) (cut pool names condition) (wide_source source) (wide_cut pool names condition)
+    pub wide_selected : (q : Query) → IfOk (selected tables pool q) HasFullRows
+    wide_selected (query source names condition) = on_ok HasFullRows HasFullRows (source_rows tables pool source) (cut pool names condition) (wide_source source) (wide_cut pool names condition)
 
-    wide_source : (s : Source) → IfOk (source_rows tables pool s) IsWhole
+    wide_source : (s : Source) → IfOk (source_rows tables pool s) HasFullRows
     wide_source (table name) = named (tables name) (wide name)
     wide_source (inner_join l r on) =
-        on_ok IsWhole IsWhole (selected tables pool l) (λ a. selected tables pool r >>= λ b. inner_joined pool on a b) (wide_selected l)
-        (λ a v. on_ok IsWhole IsWhole (selected tables pool r) (λ b. inner_joined pool on a b) (wide_selected r) (λ b w. wide_inner pool on a b v w))
+        on_ok HasFullRows HasFullRows (selected tables pool l) (λ a. selected tables pool r >>= λ b. inner_joined pool on a b) (wide_selected l)
+        (λ a v. on_ok HasFullRows HasFullRows (selected tables pool r) (λ b. inner_joined pool on a b) (wide_selected r) (λ b w. wide_inner pool on a b v w))
     wide_source (left_join l r on) =
-        on_ok IsWhole IsWhole (selected tables pool l) (λ a. selected tables pool r >>= λ b. left_joined pool on a b) (wide_selected l)
-        (λ a v. on_ok IsWhole IsWhole (selected tables pool r) (λ b. left_joined pool on a b) (wide_selected r) (λ b w. wide_left pool on a b v w))
+        on_ok HasFullRows HasFullRows (selected tables pool l) (λ a. selected tables pool r >>= λ b. left_joined pool on a b) (wide_selected l)
+        (λ a v. on_ok HasFullRows HasFullRows (selected tables pool r) (λ b. left_joined pool on a b) (wide_selected r) (λ b w. wide_left pool on a b v w))

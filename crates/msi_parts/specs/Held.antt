@@ -1,7 +1,7 @@
 -- The parts of a package in memory.
 use Rattle.std.specs.Prelude.{◌≡◌, false, true, List, map, IfSome}
 use Rattle.std.specs.Rc.{rc_value}
-use Rattle.cfb_tree.specs.Names.{Letters}
+use Rattle.cfb_tree.specs.Names.{CaseTable}
 use Rattle.cfb_tree.specs.Tree.{Tree}
 use Rattle.msi_parts.specs.Judged.{are_free_names, heading_named, IsUsual}
 use Rattle.msi_parts.specs.Parts.{AreParts}
@@ -16,7 +16,7 @@ abbrev pub headings_in : PackageParts → List Heading
 headings_in it = map (λ t. heading_of (rc_value t)) it.tables.items
 
 -- they are those of the tree, and nothing was changed
-pub record AreHeld (letters : Letters) (tree : Tree) (it : PackageParts) : Type 0 where
+pub record ArePartsOfTree (letters : CaseTable) (tree : Tree) (it : PackageParts) : Type 0 where
   pub parts : AreParts letters tree it.kind it.summary it.pool.pool it.gives_back (headings_in it)
   pub unmodified : it.pool.modified ≡ false
 

@@ -2,13 +2,13 @@
 use Rattle.std.specs.Prelude.{◌≡◌, ◌<◌, ℕ, Bool, true, List, map, Some, Ok, Result, slice_index, IsTrue}
 use Rattle.cfb_medium.specs.declared.error.Error.{Error}
 use Rattle.cfb_medium.specs.declared.error.Error.TheVariants.{InvalidData, NotFound}
-use Rattle.cfb_tree.specs.Names.{Letters}
+use Rattle.cfb_tree.specs.Names.{CaseTable}
 use Rattle.cfb_tree.specs.Tree.{Tree}
-use Rattle.msi_meaning.specs.Known.{Parts, SystemTables}
-use Rattle.msi_meaning.specs.Opening.{rows_by, summary_read}
-use Rattle.msi_meaning.specs.declared.kind.PackageType.{PackageType}
-use Rattle.msi_meaning.specs.Sound.{IsSoundPackage}
-use Rattle.msi_meaning.specs.Package.{Packed, Packs, data_name, objects, pool_name, stream_at, summary_name, table_stream}
+use Rattle.msi_spec.specs.Known.{Parts, SystemTables}
+use Rattle.msi_spec.specs.Opening.{rows_by, summary_read}
+use Rattle.msi_spec.specs.declared.kind.PackageType.{PackageType}
+use Rattle.msi_spec.specs.Sound.{IsSoundPackage}
+use Rattle.msi_spec.specs.Package.{PackageContent, TreePacksPackage, data_name, objects, pool_name, stream_at, summary_name, table_stream}
 use Rattle.msi_pool.specs.Pool.{Pool}
 use Rattle.msi_pool.specs.PoolReading.{Begun, begun, pool_of, texts_give_back as pool_texts_give_back}
 use Rattle.msi_props.specs.Held.{SetState}
@@ -19,7 +19,7 @@ use Rattle.msi_tables.specs.Schema.{columns_columns, columns_name, is_schema, ta
 use Rattle.msi_tables.specs.Table.{Heading, row_data, Table}
 use Rattle.msi_texts.specs.Results.{◌>>=◌, or_refused, unless_not}
 
-module _ (letters : Letters) (tree : Tree) where
+module _ (letters : CaseTable) (tree : Tree) where
   -- the summary of the tree, or its refusal
   abbrev pub summary_in : Result Props Error
   summary_in = or_refused (stream_at letters (objects tree.content) summary_name) NotFound >>= summary_read
@@ -65,7 +65,7 @@ module _ (letters : Letters) (tree : Tree) where
 abbrev pub heading : Bool → Table → Heading
 heading long t = record { name = t.name; columns = t.columns; long = long }
 
-module _ (letters : Letters) (tree : Tree) where
+module _ (letters : CaseTable) (tree : Tree) where
   -- the rows of the system tables describe just these
   pub record HasSchema (pool : Pool) (headings : List Heading) : Type 0 where
     pub tables : List Row
@@ -84,10 +84,10 @@ module _ (letters : Letters) (tree : Tree) where
 
   -- a sound package lies in the tree of a file that was judged so
   abbrev pub IsSoundIn : Bool → Type 0
-  IsSoundIn file_is_sound = IsTrue file_is_sound × (P : Packed) × (packs : Packs letters tree P) × IsSoundPackage letters tree P packs
+  IsSoundIn file_is_sound = IsTrue file_is_sound × (P : PackageContent) × (packs : TreePacksPackage letters tree P) × IsSoundPackage letters tree P packs
 
 -- what memory has is the package's: its tables are told without their rows
-pub record IsMemoryOf (told_kind : PackageType) (props : Props) (held : Pool) (headings : List Heading) (P : Packed) : Type 0 where
+pub record MemoryIsPackage (told_kind : PackageType) (props : Props) (held : Pool) (headings : List Heading) (P : PackageContent) : Type 0 where
   pub kind : told_kind ≡ P.kind
   pub summary : props ≡ P.summary
   pub pool : held ≡ P.pool

@@ -9,5 +9,5 @@ abbrev pub Wide : ℕ → List Row → Type 0
 Wide n rows = AllByRecursion (λ row. length row ≡ n) rows
 
 -- each row of the table has a cell for each of its columns
-abbrev pub IsWhole : Table → Type 0
-IsWhole t = Wide (length t.columns) t.rows
+abbrev pub HasFullRows : Table → Type 0
+HasFullRows t = Wide (length t.columns) t.rows

@@ -1,9 +1,9 @@
 //! What a package is for, by its root's identifier.
 ghost use Rattle.std.specs.Prelude.{◌≡◌};
-ghost use Rattle.msi_meaning.specs.Opening.{kind_of};
+ghost use Rattle.msi_spec.specs.Opening.{kind_of};
 
 use cfb_medium::Error;
-use msi_meaning::PackageType;
+use msi_spec::PackageType;
 use uuid::Uuid;
 
 // The identifiers of the three kinds: 000C10xx-0000-0000-C000-000000000046.

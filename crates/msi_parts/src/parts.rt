@@ -1,6 +1,6 @@
 //! The parts of a package that are held in memory.
-use msi_meaning::PackageType;
 use msi_pool::StringPool;
+use msi_spec::PackageType;
 use msi_summary::SummaryInfo;
 use msi_tables::Table;
 use std::rc::Rc;

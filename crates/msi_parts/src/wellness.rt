@@ -3,7 +3,7 @@ ghost use Rattle.std.specs.Prelude.{◌≡◌, ◌↔◌, map, IfSome, IsTrue};
 ghost use Rattle.std.specs.List.{list_all};
 ghost use Rattle.std.specs.Rc.{rc_value};
 ghost use Rattle.msi_columns.specs.Held.{columns_of};
-ghost use Rattle.msi_meaning.specs.Sound.{is_free_table_name};
+ghost use Rattle.msi_spec.specs.Sound.{is_free_table_name};
 ghost use Rattle.msi_parts.specs.Held.{AreWell};
 ghost use Rattle.msi_parts.specs.Judged.{are_free_names, heading_named, IsUsual};
 ghost use Rattle.msi_tables.specs.Held.{heading_of};

@@ -13,7 +13,7 @@ use Rattle.msi_texts.specs.Results.{◌>>=◌, unless_not, or_refused}
 use Rattle.msi_texts.specs.Reading.{bytes_at, number_at}
 use Rattle.msi_texts.specs.declared.codepage.CodePage.TheVariants as page
 use Rattle.msi_texts.specs.Page.{page_id, id_of, all_pages}
-use Rattle.msi_pool.specs.Pool.{Pool, Place, Stored, IsHead, AreHeads, Pooled, width_bit}
+use Rattle.msi_pool.specs.Pool.{Pool, PoolEntry, StoredText, IsHead, AreHeads, Pooled, width_bit}
 use Rattle.msi_pool.specs.PoolReading.{Heads, Begun, length_at, head_at, heads_at, page_number, begun, texts_at, place_read, pool_of}
 use Rattle.msi_pool.proofs.PoolReads.{head_in_numbers, one_more, pair_ok, begun_with, width_of}
 use Rattle.msi_texts.proofs.NumberBytes.{le_back}
@@ -81,7 +81,7 @@ head_length len count head h = go h.2
 abbrev turn : ℕ → Bool → Result ((ℕ × ℕ) × List ℕ) Error → Result Heads Error
 turn most none r = cond none (Ok []) (r >>= λ head. heads_at most head.1 >>= λ heads. Ok (head.0 ∷ heads))
 
-heads_found : (most : ℕ) (ss : List Stored) (bytes : List ℕ) → AreHeads ss bytes → length bytes ≤ most → heads_at most bytes ≡ Ok (map head_in_numbers ss)
+heads_found : (most : ℕ) (ss : List StoredText) (bytes : List ℕ) → AreHeads ss bytes → length bytes ≤ most → heads_at most bytes ≡ Ok (map head_in_numbers ss)
 heads_found zero [] bytes h few = refl
 heads_found (suc most) [] bytes h few = let short : nat_lt (length bytes) 2 ≡ true = grind (arith, nat_tests) in ap (λ b. turn most b (head_at bytes)) short
 heads_found zero (s ∷ ss) bytes h few = absurd (omega (arith, head_length (length s.0) s.1 h.0 h.2, ap length h.4, length-append h.0 h.1))
@@ -95,7 +95,7 @@ heads_found (suc most) (s ∷ ss) bytes h few =
     heads_ok : Heads → Result Heads Error
     heads_ok hs = Ok hs
 
-texts_found : (ss : List Stored) (unread : List ℕ) → texts_at (map head_in_numbers ss) (flat_map (λ s. s.0) ss ++ unread) ≡ Ok ss
+texts_found : (ss : List StoredText) (unread : List ℕ) → texts_at (map head_in_numbers ss) (flat_map (λ s. s.0) ss ++ unread) ≡ Ok ss
 texts_found [] unread = refl
 texts_found (s ∷ ss) unread =
     ap (λ z. texts_at (map head_in_numbers (s ∷ ss)) z) (append_assoc s.0 (flat_map (λ s. s.0) ss) unread)
@@ -184,8 +184,8 @@ module _ (pool_bytes data_bytes : List ℕ) (pool : Pool) (h : Pooled pool_bytes
       width_alone id true l = grind (arith, nat_tests)
       width_alone id false l = grind (arith, nat_tests)
 
-      places_ok : List Stored → Result (List Place) Error
+      places_ok : List StoredText → Result (List PoolEntry) Error
       places_ok stored = Ok (map (place_read pool.page) stored)
 
-      pool_ok : Bool → List Place → Result Pool Error
+      pool_ok : Bool → List PoolEntry → Result Pool Error
       pool_ok long places = Ok (record { page = pool.page; long = long; places = places })

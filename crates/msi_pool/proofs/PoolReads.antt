@@ -11,7 +11,7 @@ use Rattle.msi_texts.specs.Numbers.{le_bytes, le_number}
 use Rattle.msi_texts.specs.Results.{◌>>=◌, unless_not, or_refused}
 use Rattle.msi_texts.specs.Reading.{bytes_at, number_at}
 use Rattle.msi_texts.specs.Page.{page_id}
-use Rattle.msi_pool.specs.Pool.{Pool, Place, Stored, IsHead, AreHeads, Pooled, width_bit}
+use Rattle.msi_pool.specs.Pool.{Pool, PoolEntry, StoredText, IsHead, AreHeads, Pooled, width_bit}
 use Rattle.msi_pool.specs.PoolReading.{Heads, Begun, length_at, head_at, heads_at, page_number, begun, texts_at, place_read, places_at, pool_of}
 use Rattle.msi_pool.proofs.PoolHeads.{bind_cases, rest_of, head_at-rest}
 
@@ -180,15 +180,15 @@ took_heads (suc most) bytes hs h few e = go (nat_lt (length bytes) 2) refl (λ r
         (t.front, first.0.1, t.is, ih first.0.1 others.0 t.are_bytes (omega arith) others.1, t.cut)
 
 -- the length and the count of what is stored
-abbrev pub head_in_numbers : Stored → ℕ × ℕ
+abbrev pub head_in_numbers : StoredText → ℕ × ℕ
 head_in_numbers s = (length s.0, s.1)
 
-heads_of_stored : (ss : List Stored) (bytes : List ℕ) → HeadsAre (map head_in_numbers ss) bytes → AreHeads ss bytes
+heads_of_stored : (ss : List StoredText) (bytes : List ℕ) → HeadsAre (map head_in_numbers ss) bytes → AreHeads ss bytes
 heads_of_stored [] bytes h = h
 heads_of_stored (s ∷ ss) bytes h = (h.0, h.1, h.2, heads_of_stored ss h.1 h.3, h.4)
 
 -- the texts that are read have these lengths and counts, and their bytes stand one after the other
-record TookTexts (hs : Heads) (bytes : List ℕ) (ss : List Stored) : Type 0 where
+record TookTexts (hs : Heads) (bytes : List ℕ) (ss : List StoredText) : Type 0 where
   numbers : map head_in_numbers ss ≡ hs
   unread : List ℕ
   cut : bytes ≡ flat_map (λ s. s.0) ss ++ unread
@@ -206,13 +206,13 @@ cut_bytes n bytes x e = go (nat_lt (length bytes) n) refl e
         let long : n ≤ length bytes = grind (arith, nat_tests, f) in
         (ap length (sym (ap front_of g)) ∙ length-take-le n bytes long, sym (take-append-drop n bytes) ∙ ap₂ (λ y z. y ++ z) (ap front_of g) (ap rest_of g))
 
-abbrev pub one_more : List ℕ → ℕ → List Stored → Result (List Stored) Error
+abbrev pub one_more : List ℕ → ℕ → List StoredText → Result (List StoredText) Error
 one_more text count ss = Ok ((text, count) ∷ ss)
 
-took_texts : (hs : Heads) (bytes : List ℕ) (ss : List Stored) → texts_at hs bytes ≡ Ok ss → TookTexts hs bytes ss
+took_texts : (hs : Heads) (bytes : List ℕ) (ss : List StoredText) → texts_at hs bytes ≡ Ok ss → TookTexts hs bytes ss
 took_texts [] bytes ss e = subst (TookTexts [] bytes) (ap stored_in e) (record { numbers = refl; unread = bytes; cut = refl })
   where
-    stored_in : Result (List Stored) Error → List Stored
+    stored_in : Result (List StoredText) Error → List StoredText
     stored_in (Ok x) = x
     stored_in (Err e) = ss
 took_texts (h ∷ hs) bytes ss e =
@@ -226,7 +226,7 @@ took_texts (h ∷ hs) bytes ss e =
       cut = cut.1 ∙ ap (λ x. text.0.0 ++ x) rest.cut ∙ sym (append_assoc text.0.0 (flat_map (λ s. s.0) more.0) rest.unread);
     })
   where
-    stored_in : Result (List Stored) Error → List Stored
+    stored_in : Result (List StoredText) Error → List StoredText
     stored_in (Ok x) = x
     stored_in (Err e) = ss
 
@@ -286,19 +286,19 @@ read_pool_is_pooled pool_bytes data_bytes b pool h e f =
     begun_in d (Ok x) = x
     begun_in d (Err e) = d
 
-    pool_with : CodePage → ℕ → List Place → Pool
+    pool_with : CodePage → ℕ → List PoolEntry → Pool
     pool_with page n places = record { page = page; long = width_of n; places = places }
 
-    pool_ok : CodePage → ℕ → List Place → Result Pool Error
+    pool_ok : CodePage → ℕ → List PoolEntry → Result Pool Error
     pool_ok page n places = Ok (pool_with page n places)
 
     pool_in : Pool → Result Pool Error → Pool
     pool_in d (Ok x) = x
     pool_in d (Err e) = d
 
-    places_ok : CodePage → List Stored → Result (List Place) Error
+    places_ok : CodePage → List StoredText → Result (List PoolEntry) Error
     places_ok page stored = Ok (map (place_read page) stored)
 
-    places_in : List Place → Result (List Place) Error → List Place
+    places_in : List PoolEntry → Result (List PoolEntry) Error → List PoolEntry
     places_in d (Ok x) = x
     places_in d (Err e) = d

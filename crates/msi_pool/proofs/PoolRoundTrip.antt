@@ -11,7 +11,7 @@ use Rattle.msi_texts.specs.declared.codepage.CodePage.TheVariants as page
 use Rattle.msi_texts.specs.Numbers.{le_bytes}
 use Rattle.msi_texts.specs.Page.{encoded, decoded, page_id, id_of}
 use Rattle.msi_texts.proofs.PageRoundTrip.{fitting_text_comes_back}
-use Rattle.msi_pool.specs.Pool.{Pool, Place, IsHead, AreHeads, Pooled, head_bytes, head_of, stored_place, stored_of, pool_stream, data_stream}
+use Rattle.msi_pool.specs.Pool.{Pool, PoolEntry, IsHead, AreHeads, Pooled, head_bytes, head_of, stored_place, stored_of, pool_stream, data_stream}
 use Rattle.msi_pool.specs.PoolKept.{IsKeptPlace, AreKept, IsWritable}
 
 -- each page comes back from its number
@@ -42,11 +42,11 @@ unfolding chars
 empty_encoded page.Utf8 = refl
 empty_encoded _ = refl
 
-pub no_bytes : (page : CodePage) (p : Place) → IsKeptPlace page p → p.count ≡ 0 → length (encoded page p.text) ≡ 0
+pub no_bytes : (page : CodePage) (p : PoolEntry) → IsKeptPlace page p → p.count ≡ 0 → length (encoded page p.text) ≡ 0
 no_bytes page p kept e = rw (kept.free e, empty_encoded page) refl
 
 -- all heads
-pub heads_read : (page : CodePage) (ps : List Place) → AreKept page ps → AreHeads (map (stored_place page) ps) (flat_map head_of (map (stored_place page) ps))
+pub heads_read : (page : CodePage) (ps : List PoolEntry) → AreKept page ps → AreHeads (map (stored_place page) ps) (flat_map head_of (map (stored_place page) ps))
 heads_read page [] kept = omega arith
 heads_read page (p ∷ ps) kept = (
   head_of (stored_place page p),
@@ -56,11 +56,11 @@ heads_read page (p ∷ ps) kept = (
   refl,
 )
 
-pub texts_read : (page : CodePage) (ps : List Place) → AreKept page ps → ps ≡ map (λ s. record { text = decoded page s.0; count = s.1 }) (map (stored_place page) ps)
+pub texts_read : (page : CodePage) (ps : List PoolEntry) → AreKept page ps → ps ≡ map (λ s. record { text = decoded page s.0; count = s.1 }) (map (stored_place page) ps)
 texts_read page [] kept = refl
 texts_read page (p ∷ ps) kept =
     let text = fitting_text_comes_back page p.text (IsUtf8-from_is_utf8 p.text kept.0.utf8) kept.0.fit in
-    ap₂ (λ (t : List ℕ) (qs : List Place). record { text = t; count = p.count } ∷ qs) (sym text) (texts_read page ps kept.1)
+    ap₂ (λ (t : List ℕ) (qs : List PoolEntry). record { text = t; count = p.count } ∷ qs) (sym text) (texts_read page ps kept.1)
 
 -- what a pool writes is read as it was, where its texts fit
 pub written_pool_is_read : (pool : Pool) → IsWritable pool → Pooled (pool_stream pool) (data_stream pool) pool

@@ -4,7 +4,7 @@ use Rattle.std.specs.Prelude.{Some, codes, Result, Ok, Err}
 use Rattle.std.specs.Str.{chars, is_utf8}
 use Rattle.std.specs.Str.Lossy.{utf8_valid_len, utf8_lossy}
 use Rattle.std.proofs.Math.Utf8.{encode}
-use Rattle.msi_pool.specs.Pool.{Pool, Place, place, place_among, with_use, without_use, pool_stream}
+use Rattle.msi_pool.specs.Pool.{Pool, PoolEntry, place, place_among, with_refcount_up, with_refcount_down, pool_stream}
 use Rattle.msi_pool.specs.PoolReading.{begun, pool_of}
 use Rattle.msi_texts.specs.Results.{◌>>=◌}
 use Rattle.cfb_medium.specs.declared.error.Error.{Error}
@@ -14,36 +14,36 @@ use Rattle.msi_texts.specs.declared.codepage.CodePage.TheVariants as page
 abbrev empty_pool : Pool
 empty_pool = record { page = page.Utf8; long = false; places = [] }
 
-empty_text_written : pool_stream (record empty_pool { places = with_use [] [] }) ≡ 0xE9 ∷ 0xFD ∷ 0 ∷ 0 ∷ 0 ∷ 0 ∷ 1 ∷ 0 ∷ 0 ∷ 0 ∷ 0 ∷ 0 ∷ []
+empty_text_written : pool_stream (record empty_pool { places = with_refcount_up [] [] }) ≡ 0xE9 ∷ 0xFD ∷ 0 ∷ 0 ∷ 0 ∷ 0 ∷ 1 ∷ 0 ∷ 0 ∷ 0 ∷ 0 ∷ 0 ∷ []
 empty_text_written = refl
 
-abbrev foobar : ℕ → Place
+abbrev foobar : ℕ → PoolEntry
 foobar n = record { text = codes "Foobar"; count = n }
 
-second_place : place (record empty_pool { places = with_use (codes "Foobar") (foobar 65534 ∷ []) }) (codes "Foobar") ≡ Some 2
+second_place : place (record empty_pool { places = with_refcount_up (codes "Foobar") (foobar 65534 ∷ []) }) (codes "Foobar") ≡ Some 2
 second_place = refl
 
-second_use : with_use (codes "Foobar") (with_use (codes "Foobar") (foobar 65534 ∷ [])) ≡ foobar 65535 ∷ foobar 1 ∷ []
+second_use : with_refcount_up (codes "Foobar") (with_refcount_up (codes "Foobar") (foobar 65534 ∷ [])) ≡ foobar 65535 ∷ foobar 1 ∷ []
 second_use = refl
 
 -- a place that three uses left free is the least that is taken next
-abbrev used_once : List ℕ → Place
+abbrev used_once : List ℕ → PoolEntry
 used_once t = record { text = t; count = 1 }
 
-abbrev three_left : List Place
-three_left = without_use 3 (without_use 1 (without_use 2 (used_once (codes "Foo") ∷ used_once (codes "Bar") ∷ used_once (codes "Quux") ∷ [])))
+abbrev three_left : List PoolEntry
+three_left = with_refcount_down 3 (with_refcount_down 1 (with_refcount_down 2 (used_once (codes "Foo") ∷ used_once (codes "Bar") ∷ used_once (codes "Quux") ∷ [])))
 
-least_taken : with_use (codes "Qux") (with_use (codes "Baz") three_left) ≡ used_once (codes "Baz") ∷ used_once (codes "Qux") ∷ record { text = []; count = 0 } ∷ []
+least_taken : with_refcount_up (codes "Qux") (with_refcount_up (codes "Baz") three_left) ≡ used_once (codes "Baz") ∷ used_once (codes "Qux") ∷ record { text = []; count = 0 } ∷ []
 least_taken = refl
 
 -- a free place before one that holds the text
-abbrev two_with_a_gap : List Place
+abbrev two_with_a_gap : List PoolEntry
 two_with_a_gap = record { text = codes "A"; count = 65535 } ∷ record { text = []; count = 0 } ∷ used_once (codes "A") ∷ []
 
 gap_is_taken : place_among (codes "A") two_with_a_gap ≡ 2
 gap_is_taken = refl
 
-gap_is_used_again : with_use (codes "A") (with_use (codes "A") two_with_a_gap) ≡ record { text = codes "A"; count = 65535 } ∷ record { text = codes "A"; count = 2 } ∷ used_once (codes "A") ∷ []
+gap_is_used_again : with_refcount_up (codes "A") (with_refcount_up (codes "A") two_with_a_gap) ≡ record { text = codes "A"; count = 65535 } ∷ record { text = codes "A"; count = 2 } ∷ used_once (codes "A") ∷ []
 gap_is_used_again = refl
 
 -- reading the two streams

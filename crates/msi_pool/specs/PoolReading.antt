@@ -4,7 +4,7 @@ use Rattle.std.specs.List.{list_all}
 use Rattle.msi_texts.specs.Results.{◌>>=◌, unless_not, or_refused}
 use Rattle.msi_texts.specs.Reading.{bytes_at, number_at}
 use Rattle.msi_texts.specs.Page.{encoded, decoded, page_id}
-use Rattle.msi_pool.specs.Pool.{Pool, Place, Stored}
+use Rattle.msi_pool.specs.Pool.{Pool, PoolEntry, StoredText}
 use Rattle.msi_texts.specs.declared.codepage.CodePage.{CodePage}
 use Rattle.cfb_medium.specs.declared.error.Error.{Error}
 use Rattle.cfb_medium.specs.declared.error.Error.TheVariants.{InvalidData}
@@ -48,16 +48,16 @@ begun bytes =
     Ok (record { page = page; long = nat_le (2 ^ 31) id.0; heads = heads })
 
 -- the bytes of each text, one after the other; what is left over is ignored
-abbrev pub texts_at : Heads → List ℕ → Result (List Stored) Error
+abbrev pub texts_at : Heads → List ℕ → Result (List StoredText) Error
 texts_at [] bytes = Ok []
 texts_at (h ∷ hs) bytes = bytes_at h.0 bytes >>= λ b. texts_at hs b.1 >>= λ stored. Ok ((b.0, h.1) ∷ stored)
 
 -- a place as it is read
-abbrev pub place_read : CodePage → Stored → Place
+abbrev pub place_read : CodePage → StoredText → PoolEntry
 place_read page s = record { text = decoded page s.0; count = s.1 }
 
 -- all of them
-abbrev pub places_at : CodePage → Heads → List ℕ → Result (List Place) Error
+abbrev pub places_at : CodePage → Heads → List ℕ → Result (List PoolEntry) Error
 places_at page heads bytes = texts_at heads bytes >>= λ stored. Ok (map (place_read page) stored)
 
 -- the number of bytes of all texts
@@ -69,12 +69,12 @@ abbrev pub pool_of : Begun → List ℕ → Result Pool Error
 pool_of b bytes = places_at b.page b.heads bytes >>= λ places. Ok (record { page = b.page; long = b.long; places = places })
 
 -- the bytes of a text are those that it is written as
-abbrev pub gives_back : CodePage → List ℕ → Bool
-gives_back page bytes = bytes_eq (encoded page (decoded page bytes)) bytes
+abbrev pub text_round_trips : CodePage → List ℕ → Bool
+text_round_trips page bytes = bytes_eq (encoded page (decoded page bytes)) bytes
 
 -- so are those of all texts
 abbrev pub stored_give_back : CodePage → Heads → List ℕ → Result Bool Error
-stored_give_back page heads bytes = texts_at heads bytes >>= λ stored. Ok (list_all (λ s. gives_back page s.0) stored)
+stored_give_back page heads bytes = texts_at heads bytes >>= λ stored. Ok (list_all (λ s. text_round_trips page s.0) stored)
 
 -- the same of the second stream
 abbrev pub texts_give_back : Begun → List ℕ → Result Bool Error

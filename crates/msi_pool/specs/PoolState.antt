@@ -1,7 +1,7 @@
 -- What is seen of a pool in memory.
 use Rattle.std.specs.Prelude.{ℕ, Bool, true, ◌&&◌, List, length, nat_lt}
 use Rattle.std.specs.List.{list_all}
-use Rattle.msi_pool.specs.Pool.{Place, Pool, pool_stream, stored_of}
+use Rattle.msi_pool.specs.Pool.{PoolEntry, Pool, pool_stream, stored_of}
 
 -- the list with its page and width, and whether it may differ from what was last written or read
 pub record PoolState : Type 0 where
@@ -23,4 +23,4 @@ is_in_size pool = nat_lt (length (pool_stream pool)) length_limit && list_all (�
 -- a draft: the pool that it shows, and the places of the one that it lies over
 pub record Drafted : Type 0 where
   pub state : PoolState
-  pub under : List Place
+  pub under : List PoolEntry

@@ -5,7 +5,7 @@ use Rattle.msi_pool.specs.declared.stringref.ValueRef.TheVariants as cell
 use Rattle.msi_texts.specs.Results.{◌>>=◌}
 use Rattle.msi_texts.specs.Reading.{number_at}
 use Rattle.msi_values.specs.Datum.{Datum, null, number, text, binary}
-use Rattle.msi_pool.specs.Pool.{Pool, place, used, without_use, at_place}
+use Rattle.msi_pool.specs.Pool.{Pool, place, used, with_refcount_down, pool_entry_at}
 use Rattle.msi_pool.specs.PoolState.{PoolState, changed_to}
 use Rattle.cfb_medium.specs.declared.error.Error.{Error}
 
@@ -45,17 +45,17 @@ with_value s _ = s
 
 -- the place of a cell's text has a use
 abbrev pub is_counted : Pool → ValueRef → Bool
-is_counted pool (cell.Str n) = not ((at_place pool.places n).count == 0)
+is_counted pool (cell.Str n) = not ((pool_entry_at pool.places n).count == 0)
 is_counted pool _ = true
 
 -- the pool once the use of a cell's text is taken back
 abbrev pub without_value : PoolState → ValueRef → PoolState
-without_value s (cell.Str n) = changed_to (record s.pool { places = without_use n s.pool.places })
+without_value s (cell.Str n) = changed_to (record s.pool { places = with_refcount_down n s.pool.places })
 without_value s _ = s
 
 -- the value of a cell
 abbrev pub value_at : Pool → ValueRef → Datum
 value_at pool cell.Null = null
 value_at pool (cell.Int z) = number z
-value_at pool (cell.Str n) = text (at_place pool.places n).text
+value_at pool (cell.Str n) = text (pool_entry_at pool.places n).text
 value_at pool cell.Binary = binary

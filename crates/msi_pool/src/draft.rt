@@ -1,6 +1,6 @@
 //! Drafts of a pool, which hold only what they changed.
 ghost use Rattle.std.specs.Prelude.{◌≡◌, ◌↔◌, ◌⊎◌, Some, None, IfOk, OnOk, OnErr, IfErr, IsErrOf, string_bytes};
-ghost use Rattle.msi_pool.specs.Pool.{at_place, place, used, without_use};
+ghost use Rattle.msi_pool.specs.Pool.{pool_entry_at, place, used, with_refcount_down};
 ghost use Rattle.msi_pool.specs.PoolDraft.{AreChangesOver, adopted};
 ghost use Rattle.msi_pool.specs.PoolState.{changed_to};
 ghost use Rattle.cfb_medium.specs.declared.error.Error.TheVariants.{InvalidInput, InvalidData, Memory};
@@ -8,21 +8,21 @@ ghost use Rattle.cfb_medium.specs.declared.error.Error.TheVariants.{InvalidInput
 use crate::stringpool::{StringPool, last_place};
 use crate::stringref::StringRef;
 use cfb_medium::Error;
-use msi_places::{Changes, DraftParts, Places};
+use msi_pool_index::{Changes, DraftParts, Places};
 use msi_texts::CodePage;
 use std::marker::Model;
 
 /// Counts uses of texts at places: a pool, or a draft of one.
 pub trait CountsUses: Drop {
     ghost use Rattle.std.specs.Prelude.{List};
-    ghost use Rattle.msi_pool.specs.Pool.{Place};
+    ghost use Rattle.msi_pool.specs.Pool.{PoolEntry};
     ghost use Rattle.msi_pool.specs.PoolState.{PoolState};
 
     /// The pool that is seen.
     ghost state: { Self → PoolState };
 
     /// The places of the pool that it lies over.
-    ghost under: { Self → List Place };
+    ghost under: { Self → List PoolEntry };
 
     /// Counts a use of the text at the least place that is free or holds it with a count below 65535,
     /// else at a new place, and tells where. InvalidInput where no reference could name that place;
@@ -32,10 +32,10 @@ pub trait CountsUses: Drop {
             ≡ Some n) }
         ensures counted { OnOk result (state self.new
             ≡ changed_to (used (state self.old).pool (string_bytes text))) }
-        ensures full { IsErrOf result InvalidInput
+        ensures full_only_if { IsErrOf result InvalidInput
             ↔ (place (state self.old).pool (string_bytes text) ≡ None) }
-        ensures kinds { IfErr result (λ e. (e ≡ Memory) ⊎ (e ≡ InvalidInput)) }
-        ensures err { OnErr result (state self.new ≡ state self.old) }
+        ensures errors { IfErr result (λ e. (e ≡ Memory) ⊎ (e ≡ InvalidInput)) }
+        ensures after_error { OnErr result (state self.new ≡ state self.old) }
         ensures under { under self.new ≡ under self.old };
 
     /// Takes back a use at a place. The last takes the text with it. InvalidData where the place has no
@@ -43,12 +43,12 @@ pub trait CountsUses: Drop {
     fn decref(&mut self, string_ref: StringRef) -> Result<(), Error>
         ensures ok { OnOk result (state self.new
             ≡ changed_to (record (state self.old).pool {
-              places = without_use string_ref (state self.old).pool.places;
+              places = with_refcount_down string_ref (state self.old).pool.places;
             })) }
         ensures unused { IsErrOf result InvalidData
-            ↔ ((at_place (state self.old).pool.places string_ref).count ≡ 0) }
-        ensures kinds { IfErr result (λ e. (e ≡ Memory) ⊎ (e ≡ InvalidData)) }
-        ensures err { OnErr result (state self.new ≡ state self.old) }
+            ↔ ((pool_entry_at (state self.old).pool.places string_ref).count ≡ 0) }
+        ensures errors { IfErr result (λ e. (e ≡ Memory) ⊎ (e ≡ InvalidData)) }
+        ensures after_error { OnErr result (state self.new ≡ state self.old) }
         ensures under { under self.new ≡ under self.old };
 }
 

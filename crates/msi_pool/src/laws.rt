@@ -2,9 +2,9 @@
 ghost use Rattle.std.specs.Prelude.{◌≡◌, ◌↔◌, ◌<◌, ℕ, List, IsTrue, Ok, slice_index};
 ghost use Rattle.std.specs.List.{list_all};
 ghost use Rattle.msi_texts.specs.declared.codepage.CodePage.{CodePage};
-ghost use Rattle.msi_pool.specs.Pool.{Place, Pool, Pooled, pool_stream, data_stream, with_use, without_use};
+ghost use Rattle.msi_pool.specs.Pool.{PoolEntry, Pool, Pooled, pool_stream, data_stream, with_refcount_up, with_refcount_down};
 ghost use Rattle.msi_pool.specs.PoolKept.{AreFreeEmpty, AreKept, CanBeKept, IsWritable};
-ghost use Rattle.msi_pool.specs.PoolReading.{Begun, begun, gives_back, pool_of, texts_give_back};
+ghost use Rattle.msi_pool.specs.PoolReading.{Begun, begun, text_round_trips, pool_of, texts_give_back};
 
 use crate::stringref::ValueRef;
 use std::cmp::Ordering;
@@ -22,7 +22,7 @@ pub fn pools_are_read_as_they_are_held()
         → (builder : Begun) × (begun pool_bytes ≡ Ok builder)
         × (pool_of builder data_bytes ≡ Ok pool)
         × (texts_give_back builder data_bytes
-        ≡ Ok (list_all (λ s. gives_back pool.page s.0) pooled.stored)) }
+        ≡ Ok (list_all (λ s. text_round_trips pool.page s.0) pooled.stored)) }
     ensures held { (pool_bytes data_bytes : List ℕ) (builder : Begun) (pool : Pool)
         → ((i : ℕ) → slice_index pool_bytes i < 256) → begun pool_bytes ≡ Ok builder
         → pool_of builder data_bytes ≡ Ok pool → Pooled pool_bytes data_bytes pool }
@@ -31,14 +31,14 @@ pub fn pools_are_read_as_they_are_held()
 /// Uses that are counted and taken back leave free places empty, and a pool whose places are kept stays such
 /// a pool, where the texts can be kept.
 pub fn uses_leave_places_kept()
-    ensures used_empty { (text : List ℕ) (places : List Place) → AreFreeEmpty places
-        → AreFreeEmpty (with_use text places) }
-    ensures taken_empty { (n : ℕ) (places : List Place) → AreFreeEmpty places
-        → AreFreeEmpty (without_use n places) }
-    ensures used_kept { (page : CodePage) (text : List ℕ) (places : List Place)
-        → CanBeKept page text → AreKept page places → AreKept page (with_use text places) }
-    ensures taken_kept { (page : CodePage) (n : ℕ) (places : List Place) → AreKept page places
-        → AreKept page (without_use n places) }
+    ensures used_empty { (text : List ℕ) (places : List PoolEntry) → AreFreeEmpty places
+        → AreFreeEmpty (with_refcount_up text places) }
+    ensures taken_empty { (n : ℕ) (places : List PoolEntry) → AreFreeEmpty places
+        → AreFreeEmpty (with_refcount_down n places) }
+    ensures used_kept { (page : CodePage) (text : List ℕ) (places : List PoolEntry)
+        → CanBeKept page text → AreKept page places → AreKept page (with_refcount_up text places) }
+    ensures taken_kept { (page : CodePage) (n : ℕ) (places : List PoolEntry) → AreKept page places
+        → AreKept page (with_refcount_down n places) }
 {}
 
 /// Whether two cells are equal by their order: that is where they are one, as `==` tells.

@@ -1,8 +1,8 @@
 //! Reading the string pool from its two streams.
 ghost use Rattle.std.specs.Prelude.{◌≡◌, ◌⊎◌, ◌+◌, ◌<◌, ◌≤◌, ◌^◌, ℕ, pos, [], false, length, Ok, Err, IfOk, IfErr, OnOk, OnErr, drop, take, string_bytes};
-ghost use Rattle.msi_texts.specs.Results.{Answers};
+ghost use Rattle.msi_texts.specs.Results.{ReturnsOrOutOfMemory};
 ghost use Rattle.msi_texts.specs.Reading.{number_at};
-ghost use Rattle.msi_pool.specs.PoolReading.{head_at, heads_at, begun, gives_back, pool_of, page_number, places_at, stored_give_back, text_len, texts_give_back};
+ghost use Rattle.msi_pool.specs.PoolReading.{head_at, heads_at, begun, text_round_trips, pool_of, page_number, places_at, stored_give_back, text_len, texts_give_back};
 ghost use Rattle.msi_texts.specs.Page.{decoded};
 ghost use Rattle.msi_pool.specs.Pool.{places_of};
 ghost use Rattle.cfb_medium.specs.declared.error.Error.TheVariants.{UnexpectedEof, Memory};
@@ -36,7 +36,7 @@ impl Model for StringPoolBuilder {
 // Takes the length and the count of the next place.
 fn read_head(reader: &mut &[u8]) -> Result<(u32, u16), Error>
     ensures ok { IfOk result (λ head. head_at reader.old.now ≡ Ok (head, reader.new.now)) }
-    ensures error { IfErr result (λ e. head_at reader.old.now ≡ Err e) }
+    ensures errors { IfErr result (λ e. head_at reader.old.now ≡ Err e) }
 {
     let len = u32::from(read_u16(reader)?);
     let count = read_u16(reader)?;
@@ -49,7 +49,8 @@ fn read_head(reader: &mut &[u8]) -> Result<(u32, u16), Error>
 
 // The length and the count of each place. A rest of one byte is ignored.
 fn read_heads(alloc: Global, bytes: &[u8]) -> Result<Vec<(u32, u16)>, Error>
-    ensures { Answers (λ heads. heads.items) result (heads_at (length bytes.now) bytes.now) }
+    ensures { ReturnsOrOutOfMemory (λ heads. heads.items) result
+        (heads_at (length bytes.now) bytes.now) }
 {
     let mut rest = bytes;
     let mut heads = Vec::new(alloc);
@@ -64,9 +65,9 @@ impl StringPoolBuilder {
     /// unknown page or more than 4294967295 places; a rest of one byte is ignored. After an error the
     /// reader is where it was.
     pub fn read_from_pool(alloc: Global, reader: &mut &[u8]) -> Result<StringPoolBuilder, Error>
-        ensures read { Answers (λ builder. builder) result (begun reader.old.now) }
+        ensures read { ReturnsOrOutOfMemory (λ builder. builder) result (begun reader.old.now) }
         ensures end { OnOk result (reader.new.now ≡ []) }
-        ensures err { OnErr result (reader.new.now ≡ reader.old.now) }
+        ensures after_error { OnErr result (reader.new.now ≡ reader.old.now) }
     {
         let mut rest = *reader;
         let id = read_u32(&mut rest)?;
@@ -86,10 +87,11 @@ impl StringPoolBuilder {
     /// Reads the texts from the data stream, and goes past them. UnexpectedEof where bytes are missing;
     /// after an error the reader is where it was.
     pub fn build_from_data(self, alloc: Global, reader: &mut &[u8]) -> Result<StringPool, Error>
-        ensures read { Answers (λ pool. pool.pool) result (pool_of self reader.old.now) }
+        ensures read { ReturnsOrOutOfMemory (λ pool. pool.pool) result
+            (pool_of self reader.old.now) }
         ensures unmodified { IfOk result (λ pool. pool.modified ≡ false) }
         ensures rest { OnOk result (reader.new.now ≡ drop (text_len self.heads) reader.old.now) }
-        ensures err { OnErr result (reader.new.now ≡ reader.old.now) }
+        ensures after_error { OnErr result (reader.new.now ≡ reader.old.now) }
     {
         let mut rest = *reader;
         let strings = read_texts(alloc, self.codepage, self.heads.as_slice(), &mut rest)?;
@@ -101,7 +103,8 @@ impl StringPoolBuilder {
     /// Whether each text of the data stream gives its bytes back when it is written under the page.
     /// UnexpectedEof where bytes are missing.
     pub fn gives_back(&self, alloc: Global, bytes: &[u8]) -> Result<bool, Error>
-        ensures { Answers (λ gives. gives) result (texts_give_back self.now bytes.now) }
+        ensures { ReturnsOrOutOfMemory (λ gives. gives) result
+            (texts_give_back self.now bytes.now) }
     {
         texts_give_back(alloc, self.codepage, self.heads.as_slice(), bytes)
     }
@@ -114,7 +117,8 @@ fn texts_give_back(
     heads: &[(u32, u16)],
     bytes: &[u8],
 ) -> Result<bool, Error>
-    ensures { Answers (λ gives. gives) result (stored_give_back codepage heads.now bytes.now) }
+    ensures { ReturnsOrOutOfMemory (λ gives. gives) result
+        (stored_give_back codepage heads.now bytes.now) }
 {
     let mut rest = bytes;
     let mut all = true;
@@ -131,8 +135,8 @@ fn texts_give_back(
 
 // Whether a text gives its bytes back.
 fn gives_back(alloc: Global, codepage: CodePage, bytes: &[u8]) -> Result<bool, Error>
-    ensures ok { IfOk result (λ gives. gives ≡ gives_back codepage bytes.now) }
-    ensures err { IfErr result (λ e. e ≡ Memory) }
+    ensures ok { IfOk result (λ gives. gives ≡ text_round_trips codepage bytes.now) }
+    ensures errors { IfErr result (λ e. e ≡ Memory) }
 {
     let text = codepage.decode(alloc, bytes)?;
     let again = codepage.encode(alloc, text.as_str())?;
@@ -150,7 +154,7 @@ fn read_text(
     ensures text { IfOk result (λ text. string_bytes text
         ≡ decoded codepage (take len reader.old.now)) }
     ensures rest { OnOk result (reader.new.now ≡ drop len reader.old.now) }
-    ensures error { IfErr result (λ e. (e ≡ Memory)
+    ensures errors { IfErr result (λ e. (e ≡ Memory)
         ⊎ ((e ≡ UnexpectedEof) × (length reader.old.now < len))) }
 {
     let bytes = *reader;
@@ -168,7 +172,7 @@ fn read_texts(
     heads: &[(u32, u16)],
     reader: &mut &[u8],
 ) -> Result<Vec<(String, u16)>, Error>
-    ensures places { Answers (λ strings. places_of strings.items) result
+    ensures places { ReturnsOrOutOfMemory (λ strings. places_of strings.items) result
         (places_at codepage heads.now reader.old.now) }
     ensures rest { OnOk result (reader.new.now ≡ drop (text_len heads.now) reader.old.now) }
     ensures len { IfOk result (λ strings. length strings.items ≡ length heads.now) }

@@ -6,7 +6,7 @@ ghost use Rattle.cfb_medium.specs.declared.error.Error.TheVariants.{Memory};
 use crate::draft::PoolChanges;
 use crate::stringpool::StringPool;
 use cfb_medium::Error;
-use msi_places::ReadyPlaces;
+use msi_pool_index::ReadyPlaces;
 use msi_texts::CodePage;
 use std::marker::Model;
 
@@ -41,8 +41,8 @@ impl StringPool {
         requires { AreChangesOver self.pool.places changes }
         ensures state { IfOk result (λ ready. ready.state ≡ self) }
         ensures next { IfOk result (λ ready. ready.next ≡ adopted self.pool.places changes) }
-        ensures err { IfErr result (λ e. e.0 ≡ self) }
-        ensures kinds { IfErr result (λ e. e.1 ≡ Memory) }
+        ensures after_error { IfErr result (λ e. e.0 ≡ self) }
+        ensures errors { IfErr result (λ e. e.1 ≡ Memory) }
     {
         let head = Head {
             codepage: self.codepage,

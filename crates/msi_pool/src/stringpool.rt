@@ -2,7 +2,7 @@
 ghost use Rattle.std.specs.Prelude.{◌≡◌, ◌↔◌, ◌⊎◌, ◌+◌, ◌<◌, ◌^◌, ◌++◌, ◌||◌, ◌==◌, not, [], true, false, IsTrue, nat_lt, map, take, length, Some, None, IfOk, OnOk, OnErr, IfErr, IsErrOf, string_bytes};
 ghost use Rattle.std.specs.List.{flat_map, list_all};
 ghost use Rattle.msi_texts.specs.Page.{encoded};
-ghost use Rattle.msi_pool.specs.Pool.{place, last_place, without_use, at_place, places_of, used, head_bytes, head_of, stored_place, pool_stream, data_stream, width_bit};
+ghost use Rattle.msi_pool.specs.Pool.{place, last_place, with_refcount_down, pool_entry_at, places_of, used, head_bytes, head_of, stored_place, pool_stream, data_stream, width_bit};
 ghost use Rattle.msi_pool.specs.PoolDraft.{AreChangesOver, adopted};
 ghost use Rattle.msi_pool.specs.PoolKept.{AreFreeEmpty, AreKept, IsKeptPlace, IsWritable, is_unfit, unfit_among};
 ghost use Rattle.msi_pool.specs.PoolState.{changed_to, is_in_size, length_limit};
@@ -11,7 +11,7 @@ ghost use Rattle.cfb_medium.specs.declared.error.Error.TheVariants.{InvalidInput
 use crate::draft::{Draft, PoolChanges};
 use crate::stringref::StringRef;
 use cfb_medium::Error;
-use msi_places::Places;
+use msi_pool_index::Places;
 use msi_texts::{CodePage, write_u16, write_u32};
 use std::alloc::{AllocError, Global};
 use std::marker::Model;
@@ -78,7 +78,7 @@ impl StringPool {
               };
               modified = false;
             }) }
-        ensures err { IfErr result (λ e. e ≡ Memory) }
+        ensures errors { IfErr result (λ e. e ≡ Memory) }
     {
         Ok(StringPool {
             codepage,
@@ -131,8 +131,8 @@ impl StringPool {
     pub fn adopt(&mut self, changes: PoolChanges) -> Result<(), Error>
         requires { AreChangesOver self.old.pool.places changes }
         ensures ok { OnOk result (self.new ≡ adopted self.old.pool.places changes) }
-        ensures err { OnErr result (self.new ≡ self.old) }
-        ensures kinds { IfErr result (λ e. e ≡ Memory) }
+        ensures after_error { OnErr result (self.new ≡ self.old) }
+        ensures errors { IfErr result (λ e. e ≡ Memory) }
     {
         self.places.adopt(changes.places)?;
         self.codepage = changes.codepage;
@@ -193,7 +193,7 @@ impl StringPool {
 
     /// The text at a place; past the last the empty text.
     pub fn get(&self, string_ref: StringRef) -> &str
-        ensures { result.now ≡ (at_place self.now.pool.places string_ref).text }
+        ensures { result.now ≡ (pool_entry_at self.now.pool.places string_ref).text }
     {
         match self.places.list().get(string_ref.index()) {
             Some((text, _)) => text.as_str(),
@@ -203,7 +203,7 @@ impl StringPool {
 
     /// The number of uses at a place; past the last 0.
     pub fn refcount(&self, string_ref: StringRef) -> u16
-        ensures { result ≡ (at_place self.now.pool.places string_ref).count }
+        ensures { result ≡ (pool_entry_at self.now.pool.places string_ref).count }
     {
         match self.places.list().get(string_ref.index()) {
             Some((_, count)) => *count,
@@ -215,7 +215,7 @@ impl StringPool {
     pub fn counts(&self, alloc: Global) -> Result<Vec<u16>, Error>
         ensures counts { IfOk result (λ counts. counts.items
             ≡ map (λ p. p.count) self.now.pool.places) }
-        ensures kinds { IfErr result (λ e. e ≡ Memory) }
+        ensures errors { IfErr result (λ e. e ≡ Memory) }
     {
         counts_of(alloc, self.places.list())
     }
@@ -239,7 +239,7 @@ impl StringPool {
     pub fn unfit_texts(&self, alloc: Global, most: usize) -> Result<Vec<String>, Error>
         ensures texts { IfOk result (λ texts. map string_bytes texts.items
             ≡ take most (unfit_among self.now.pool.page self.now.pool.places)) }
-        ensures kinds { IfErr result (λ e. e ≡ Memory) }
+        ensures errors { IfErr result (λ e. e ≡ Memory) }
     {
         first_unfit(alloc, self.codepage, self.places.list(), most)
     }
@@ -251,10 +251,10 @@ impl StringPool {
         ensures place { IfOk result (λ n. place self.old.pool (string_bytes text) ≡ Some n) }
         ensures counted { OnOk result (self.new
             ≡ changed_to (used self.old.pool (string_bytes text))) }
-        ensures full { IsErrOf result InvalidInput
+        ensures full_only_if { IsErrOf result InvalidInput
             ↔ (place self.old.pool (string_bytes text) ≡ None) }
-        ensures kinds { IfErr result (λ e. (e ≡ Memory) ⊎ (e ≡ InvalidInput)) }
-        ensures err { OnErr result (self.new ≡ self.old) }
+        ensures errors { IfErr result (λ e. (e ≡ Memory) ⊎ (e ≡ InvalidInput)) }
+        ensures after_error { OnErr result (self.new ≡ self.old) }
     {
         let number = self.places.incref(text, last_place(self.long_string_refs))?;
         self.mark_modified();
@@ -266,13 +266,13 @@ impl StringPool {
     pub fn decref(&mut self, string_ref: StringRef) -> Result<(), Error>
         ensures ok { OnOk result (self.new
             ≡ changed_to (record self.old.pool {
-              places = without_use string_ref
+              places = with_refcount_down string_ref
                   self.old.pool.places;
             })) }
         ensures unused { IsErrOf result InvalidData
-            ↔ ((at_place self.old.pool.places string_ref).count ≡ 0) }
-        ensures kinds { IfErr result (λ e. (e ≡ Memory) ⊎ (e ≡ InvalidData)) }
-        ensures err { OnErr result (self.new ≡ self.old) }
+            ↔ ((pool_entry_at self.old.pool.places string_ref).count ≡ 0) }
+        ensures errors { IfErr result (λ e. (e ≡ Memory) ⊎ (e ≡ InvalidData)) }
+        ensures after_error { OnErr result (self.new ≡ self.old) }
     {
         self.places.decref(string_ref.number() - 1)?;
         self.mark_modified();
@@ -286,9 +286,9 @@ impl StringPool {
         ensures ok { OnOk result (writer.new.items
             ≡ writer.old.items ++ pool_stream self.now.pool) }
         ensures in_size { OnOk result (IsTrue (is_in_size self.now.pool)) }
-        ensures kinds { IfErr result (λ e. (e ≡ Memory)
+        ensures errors { IfErr result (λ e. (e ≡ Memory)
             ⊎ ((e ≡ InvalidInput) × (is_in_size self.now.pool ≡ false))) }
-        ensures err { OnErr result (writer.new.items ≡ writer.old.items) }
+        ensures after_error { OnErr result (writer.new.items ≡ writer.old.items) }
     {
         let width_bit = if self.long_string_refs {
             LONG_STRING_REFS_BIT
@@ -309,8 +309,8 @@ impl StringPool {
     pub fn write_data(&self, writer: &mut Vec<u8>) -> Result<(), Error>
         ensures ok { OnOk result (writer.new.items
             ≡ writer.old.items ++ data_stream self.now.pool) }
-        ensures kinds { IfErr result (λ e. e ≡ Memory) }
-        ensures err { OnErr result (writer.new.items ≡ writer.old.items) }
+        ensures errors { IfErr result (λ e. e ≡ Memory) }
+        ensures after_error { OnErr result (writer.new.items ≡ writer.old.items) }
     {
         let bytes = text_bytes(*writer.allocator(), self.codepage, self.places.list())?;
         writer.extend_from_slice(bytes.as_slice())?;
@@ -322,7 +322,7 @@ impl StringPool {
 fn counts_of(alloc: Global, strings: &[(String, u16)]) -> Result<Vec<u16>, Error>
     ensures counts { IfOk result (λ counts. counts.items
         ≡ map (λ p. p.count) (places_of strings.now)) }
-    ensures kinds { IfErr result (λ e. e ≡ Memory) }
+    ensures errors { IfErr result (λ e. e ≡ Memory) }
 {
     let mut counts = Vec::new(alloc);
     for (_, count) in strings {
@@ -363,7 +363,7 @@ fn first_unfit(
 ) -> Result<Vec<String>, Error>
     ensures texts { IfOk result (λ texts. map string_bytes texts.items
         ≡ take most (unfit_among codepage (places_of strings.now))) }
-    ensures kinds { IfErr result (λ e. e ≡ Memory) }
+    ensures errors { IfErr result (λ e. e ≡ Memory) }
 {
     let mut texts = Vec::new(alloc);
     for entry in strings {
@@ -423,7 +423,7 @@ fn write_heads(
     ensures in_size { OnOk result (IsTrue
         (list_all (λ s. nat_lt (length s.0) length_limit)
         (map (stored_place codepage) (places_of strings.now)))) }
-    ensures kinds { IfErr result (λ e. (e ≡ Memory)
+    ensures errors { IfErr result (λ e. (e ≡ Memory)
         ⊎ ((e ≡ InvalidInput)
         × (list_all (λ s. nat_lt (length s.0) length_limit)
         (map (stored_place codepage) (places_of strings.now)) ≡ false))) }
@@ -446,7 +446,7 @@ fn text_bytes(
 ) -> Result<Vec<u8>, Error>
     ensures bytes { IfOk result (λ bytes. bytes.items
         ≡ flat_map (λ s. s.0) (map (stored_place codepage) (places_of strings.now))) }
-    ensures kinds { IfErr result (λ e. e ≡ Memory) }
+    ensures errors { IfErr result (λ e. e ≡ Memory) }
 {
     let mut bytes = Vec::new(alloc);
     for (text, _) in strings {

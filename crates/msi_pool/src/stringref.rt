@@ -65,8 +65,8 @@ impl StringRef {
     pub fn read(reader: &mut &[u8], long_string_refs: bool) -> Result<Option<StringRef>, Error>
         ensures ok { IfOk result (λ r. ref_at long_string_refs reader.old.now
             ≡ Ok (r, reader.new.now)) }
-        ensures error { IfErr result (λ e. ref_at long_string_refs reader.old.now ≡ Err e) }
-        ensures err { OnErr result (reader.new.now ≡ reader.old.now) }
+        ensures errors { IfErr result (λ e. ref_at long_string_refs reader.old.now ≡ Err e) }
+        ensures after_error { OnErr result (reader.new.now ≡ reader.old.now) }
     {
         let number = if long_string_refs {
             read_u24(reader)?
@@ -87,8 +87,8 @@ impl StringRef {
             ≡ writer.old.items ++ le_bytes (ref_width long_string_refs) (number_of string_ref)) }
         ensures long { IsErrOf result InvalidInput
             ↔ (fits_width long_string_refs string_ref ≡ false) }
-        ensures kinds { IfErr result (λ e. (e ≡ Memory) ⊎ (e ≡ InvalidInput)) }
-        ensures err { OnErr result (writer.new.items ≡ writer.old.items) }
+        ensures errors { IfErr result (λ e. (e ≡ Memory) ⊎ (e ≡ InvalidInput)) }
+        ensures after_error { OnErr result (writer.new.items ≡ writer.old.items) }
     {
         let number = match string_ref {
             Some(string_ref) => string_ref.number(),
@@ -137,10 +137,10 @@ impl ValueRef {
             ≡ Some cell) }
         ensures counted { OnOk result (P.state string_pool.new
             ≡ with_value (P.state string_pool.old) (datum_of value)) }
-        ensures full { IsErrOf result InvalidInput
+        ensures full_only_if { IsErrOf result InvalidInput
             ↔ (cell_of (P.state string_pool.old).pool (datum_of value) ≡ None) }
-        ensures kinds { IfErr result (λ e. (e ≡ Memory) ⊎ (e ≡ InvalidInput)) }
-        ensures err { OnErr result (P.state string_pool.new ≡ P.state string_pool.old) }
+        ensures errors { IfErr result (λ e. (e ≡ Memory) ⊎ (e ≡ InvalidInput)) }
+        ensures after_error { OnErr result (P.state string_pool.new ≡ P.state string_pool.old) }
         ensures under { P.under string_pool.new ≡ P.under string_pool.old }
     {
         match value {
@@ -158,8 +158,8 @@ impl ValueRef {
             ≡ without_value (P.state string_pool.old) self) }
         ensures unused { IsErrOf result InvalidData
             ↔ (is_counted (P.state string_pool.old).pool self ≡ false) }
-        ensures kinds { IfErr result (λ e. (e ≡ Memory) ⊎ (e ≡ InvalidData)) }
-        ensures err { OnErr result (P.state string_pool.new ≡ P.state string_pool.old) }
+        ensures errors { IfErr result (λ e. (e ≡ Memory) ⊎ (e ≡ InvalidData)) }
+        ensures after_error { OnErr result (P.state string_pool.new ≡ P.state string_pool.old) }
         ensures under { P.under string_pool.new ≡ P.under string_pool.old }
     {
         match self {
@@ -183,7 +183,7 @@ impl ValueRef {
     /// The value of the cell. The one error is Memory.
     pub fn to_value(self, alloc: Global, string_pool: &StringPool) -> Result<Value, Error>
         ensures value { IfOk result (λ value. datum_of value ≡ value_at string_pool.now.pool self) }
-        ensures kinds { IfErr result (λ e. e ≡ Memory) }
+        ensures errors { IfErr result (λ e. e ≡ Memory) }
     {
         match self {
             ValueRef::Null => Ok(Value::Null),

@@ -27,7 +27,7 @@ pub(crate) struct Head {
 // Takes an identifier of 16 bytes.
 fn take_identifier(reader: &mut &[u8]) -> Result<[u8; 16], Error>
     ensures ok { IfOk result (λ bytes. bytes_at 16 reader.old.now ≡ Ok (bytes, reader.new.now)) }
-    ensures error { IfErr result (λ e. bytes_at 16 reader.old.now ≡ Err e) }
+    ensures errors { IfErr result (λ e. bytes_at 16 reader.old.now ≡ Err e) }
 {
     let bytes = take_bytes(reader, 16)?;
     let mut identifier = [0; 16];

@@ -1,9 +1,9 @@
 //! Property sets in memory.
 ghost use Rattle.std.specs.Prelude.{◌++◌, IsTrue, false, ◌≡◌, ◌⊎◌, ◌<◌, ◌≤◌, ℕ, length, map, find, ◌==◌, true, IfErr, IfOk, MatchResult, Ok, Err, OnErr, OnOk, Some, None, option_map, slice_index};
 ghost use Rattle.std.specs.List.{list_all};
-ghost use Rattle.msi_texts.specs.Results.{Answers};
+ghost use Rattle.msi_texts.specs.Results.{ReturnsOrOutOfMemory};
 ghost use Rattle.msi_props.specs.Held.{pair_in, pair_stored, property_in, stored_in};
-ghost use Rattle.msi_props.specs.Props.{gives_back, is_in_size, new_props, props_bytes, page_at, page_in, page_stored, property_named, property_put, property_removed, props_read, texts_give_back, under, with_page, with_property, without_property};
+ghost use Rattle.msi_props.specs.Props.{property_round_trips, is_in_size, new_props, props_bytes, page_at, page_in, page_stored, property_named, property_put, property_removed, props_read, texts_give_back, under, with_page, with_property, without_property};
 ghost use Rattle.cfb_medium.specs.declared.error.Error.TheVariants.{InvalidInput, Memory};
 
 use crate::head::{Head, read_head};
@@ -90,7 +90,7 @@ fn value_under(
     value: &StoredValue<'_>,
 ) -> Result<PropertyValue, Error>
     ensures ok { IfOk result (λ v. property_in v ≡ under codepage (stored_in value.now)) }
-    ensures err { IfErr result (λ e. e ≡ Memory) }
+    ensures errors { IfErr result (λ e. e ≡ Memory) }
 {
     Ok(match value {
         StoredValue::Empty => PropertyValue::Empty,
@@ -111,7 +111,7 @@ fn values_under(
 ) -> Result<Vec<(u32, PropertyValue)>, Error>
     ensures ok { IfOk result (λ values. map pair_in values.items
         ≡ map (λ v. (v.0, under codepage v.1)) (map pair_stored stored.now)) }
-    ensures err { IfErr result (λ e. e ≡ Memory) }
+    ensures errors { IfErr result (λ e. e ≡ Memory) }
 {
     let mut values = Vec::new(alloc);
     for (number, value) in stored {
@@ -122,8 +122,8 @@ fn values_under(
 
 // Whether a value that is a text is written as the bytes that it was read from.
 fn gives_back(alloc: Global, codepage: CodePage, value: &StoredValue<'_>) -> Result<bool, Error>
-    ensures ok { IfOk result (λ b. b ≡ gives_back codepage (stored_in value.now)) }
-    ensures err { IfErr result (λ e. e ≡ Memory) }
+    ensures ok { IfOk result (λ b. b ≡ property_round_trips codepage (stored_in value.now)) }
+    ensures errors { IfErr result (λ e. e ≡ Memory) }
 {
     match value {
         StoredValue::Text(bytes) => {
@@ -142,8 +142,8 @@ fn all_give_back(
     stored: &[(u32, StoredValue<'_>)],
 ) -> Result<bool, Error>
     ensures ok { IfOk result (λ b. b
-        ≡ list_all (λ v. gives_back codepage v.1) (map pair_stored stored.now)) }
-    ensures err { IfErr result (λ e. e ≡ Memory) }
+        ≡ list_all (λ v. property_round_trips codepage v.1) (map pair_stored stored.now)) }
+    ensures errors { IfErr result (λ e. e ≡ Memory) }
 {
     for (_, value) in stored {
         if !gives_back(alloc, codepage, value)? {
@@ -181,7 +181,7 @@ impl PropertySet {
     /// no section, a number that stands twice, a text without its null, a page that isn't known or isn't a number of two bytes,
     /// and a number of one byte in a set of version 0.
     pub fn read(alloc: Global, bytes: &[u8]) -> Result<PropertySet, Error>
-        ensures read { Answers (λ set. set.props) result (props_read bytes.now) }
+        ensures read { ReturnsOrOutOfMemory (λ set. set.props) result (props_read bytes.now) }
         ensures whole { IfOk result (λ set. set.whole ≡ texts_give_back bytes.now) }
     {
         let head = read_head(bytes)?;
@@ -207,7 +207,7 @@ impl PropertySet {
     pub fn write(&self, writer: &mut Vec<u8>) -> Result<(), Error>
         ensures ok { OnOk result (IsTrue (is_in_size self.now.props)
             × (writer.new.items ≡ writer.old.items ++ props_bytes self.now.props)) }
-        ensures err { IfErr result (λ e. (writer.new.items ≡ writer.old.items)
+        ensures after_error { IfErr result (λ e. (writer.new.items ≡ writer.old.items)
             × ((e ≡ Memory) ⊎ ((e ≡ InvalidInput) × (is_in_size self.now.props ≡ false)))) }
     {
         let bytes = set_bytes(self.alloc, self)?;
@@ -298,7 +298,7 @@ impl PropertySet {
         ensures ok { OnOk result (Some self.new.props
             ≡ with_property number (property_in value) self.old.props) }
         ensures whole { self.new.whole ≡ self.old.whole }
-        ensures err { IfErr result (λ e. self.new ≡ self.old
+        ensures after_error { IfErr result (λ e. self.new ≡ self.old
             × ((e ≡ Memory) ⊎ ((e ≡ InvalidInput)
             × (with_property number (property_in value) self.old.props ≡ None)))) }
     {
@@ -315,7 +315,7 @@ impl PropertySet {
     pub fn set_codepage(&mut self, codepage: CodePage) -> Result<(), Error>
         ensures ok { OnOk result (self.new
             ≡ record self.old { props = with_page codepage self.old.props }) }
-        ensures err { IfErr result (λ e. (e ≡ Memory) × (self.new ≡ self.old)) }
+        ensures errors { IfErr result (λ e. (e ≡ Memory) × (self.new ≡ self.old)) }
     {
         let number = codepage.id() as u16;
         let told = PropertyValue::I2(number.cast_signed());

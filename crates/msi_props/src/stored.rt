@@ -1,7 +1,7 @@
 //! What the bytes of a section hold of its properties, texts as bytes.
 ghost use Rattle.std.specs.Prelude.{◌≡◌, ◌⊎◌, ◌<◌, ◌^◌, drop, length, map, IfErr, IfOk, MatchResult, Ok, Err, []};
 ghost use Rattle.msi_texts.specs.Reading.{bytes_at};
-ghost use Rattle.msi_texts.specs.Results.{Answers};
+ghost use Rattle.msi_texts.specs.Results.{ReturnsOrOutOfMemory};
 ghost use Rattle.msi_props.specs.Held.{pair_stored, stored_in};
 ghost use Rattle.msi_props.specs.Props.{is_i1, pairs_at, properties_at, property_at, section_at, text_at};
 
@@ -26,7 +26,7 @@ pub(crate) enum StoredValue<'a> {
 pub(crate) fn take_bytes<'a>(reader: &mut &'a [u8], count: usize) -> Result<&'a [u8], Error>
     ensures ok { IfOk result (λ bytes. bytes_at count reader.old.now
         ≡ Ok (bytes.now, reader.new.now)) }
-    ensures error { IfErr result (λ e. bytes_at count reader.old.now ≡ Err e) }
+    ensures errors { IfErr result (λ e. bytes_at count reader.old.now ≡ Err e) }
 {
     let bytes = *reader;
     if bytes.len() < count {
@@ -83,7 +83,8 @@ pub(crate) fn behind(bytes: &[u8], offset: u32) -> &[u8]
 
 // Takes so many pairs of a number and an offset, by rising number. InvalidData where a number stands twice.
 fn read_pairs(alloc: Global, count: u32, reader: &mut &[u8]) -> Result<BTreeMap<u32, u32>, Error>
-    ensures { Answers (λ pairs. pairs.entries) result (pairs_at count reader.old.now []) }
+    ensures { ReturnsOrOutOfMemory (λ pairs. pairs.entries) result
+        (pairs_at count reader.old.now []) }
 {
     let mut pairs = BTreeMap::new(alloc);
     for _ in 0..count {
@@ -99,7 +100,7 @@ fn read_pairs(alloc: Global, count: u32, reader: &mut &[u8]) -> Result<BTreeMap<
 
 // The numbers of a section and the offsets of their values, by rising number.
 pub(crate) fn read_section(alloc: Global, section: &[u8]) -> Result<Vec<(u32, u32)>, Error>
-    ensures { Answers (λ pairs. pairs.items) result (section_at section.now) }
+    ensures { ReturnsOrOutOfMemory (λ pairs. pairs.items) result (section_at section.now) }
 {
     let mut rest = section;
     let _size = read_u32(&mut rest)?;
@@ -122,7 +123,7 @@ pub(crate) fn read_values<'a>(
     section: &'a [u8],
     pairs: &[(u32, u32)],
 ) -> Result<Vec<(u32, StoredValue<'a>)>, Error>
-    ensures { Answers (λ values. map pair_stored values.items) result
+    ensures { ReturnsOrOutOfMemory (λ values. map pair_stored values.items) result
         (properties_at version section.now pairs.now) }
 {
     let mut values = Vec::new(alloc);

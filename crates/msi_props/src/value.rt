@@ -29,7 +29,7 @@ impl PropertyValue {
     /// A copy of its own. The one error is `Memory`.
     pub fn clone(&self, alloc: Global) -> Result<PropertyValue, Error>
         ensures value { IfOk result (λ v. property_in v ≡ property_in self.now) }
-        ensures kinds { IfErr result (λ e. e ≡ Memory) }
+        ensures errors { IfErr result (λ e. e ≡ Memory) }
     {
         match self {
             PropertyValue::Empty => Ok(PropertyValue::Empty),

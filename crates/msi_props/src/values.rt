@@ -59,7 +59,7 @@ pub(crate) fn put_value(
 ) -> Result<(), Error>
     ensures ok { OnOk result (map pair_in values.new.items
         ≡ property_put number (property_in value) (map pair_in values.old.items)) }
-    ensures err { IfErr result (λ e. (e ≡ Memory) × (values.new.items ≡ values.old.items)) }
+    ensures errors { IfErr result (λ e. (e ≡ Memory) × (values.new.items ≡ values.old.items)) }
 {
     let place = place_of(values, number);
     if stands_at(values, number, place) {

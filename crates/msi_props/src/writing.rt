@@ -22,7 +22,7 @@ const MOST_VALUES: usize = 1 << 29;
 // Appends the four lowest bytes of a number.
 fn write_low(writer: &mut Vec<u8>, number: u64) -> Result<(), AllocError>
     ensures ok { OnOk result (writer.new.items ≡ writer.old.items ++ le_bytes 4 number) }
-    ensures err { OnErr result (writer.new.items ≡ writer.old.items) }
+    ensures after_error { OnErr result (writer.new.items ≡ writer.old.items) }
 {
     writer.extend_from_slice(&number.to_le_bytes()[..4])
 }
@@ -38,7 +38,7 @@ fn pad(bytes: &mut Vec<u8>) -> Result<(), AllocError>
 // A text as it is written: its length with the null, its bytes, and the null.
 fn text_bytes(alloc: Global, codepage: CodePage, words: &str) -> Result<Vec<u8>, Error>
     ensures ok { IfOk result (λ bytes. bytes.items ≡ property_bytes codepage (text words.now)) }
-    ensures err { IfErr result (λ e. e ≡ Memory) }
+    ensures errors { IfErr result (λ e. e ≡ Memory) }
 {
     let encoded = codepage.encode(alloc, words)?;
     let mut bytes = Vec::new(alloc);
@@ -54,7 +54,7 @@ fn text_bytes(alloc: Global, codepage: CodePage, words: &str) -> Result<Vec<u8>,
 fn value_bytes(alloc: Global, codepage: CodePage, value: &PropertyValue) -> Result<Vec<u8>, Error>
     ensures ok { IfOk result (λ bytes. bytes.items
         ≡ property_bytes codepage (property_in value.now)) }
-    ensures err { IfErr result (λ e. e ≡ Memory) }
+    ensures errors { IfErr result (λ e. e ≡ Memory) }
 {
     let mut bytes = Vec::new(alloc);
     match value {
@@ -111,7 +111,7 @@ fn written_values(
         ≡ offsets_from codepage start (map pair_in values.now)) }
     ensures bodies { IfOk result (λ w. w.bodies.items
         ≡ flat_map (λ v. property_bytes codepage v.1) (map pair_in values.now)) }
-    ensures err { IfErr result (λ e. e ≡ Memory) }
+    ensures errors { IfErr result (λ e. e ≡ Memory) }
 {
     let mut offsets = Vec::new(alloc);
     let mut bodies = Vec::new(alloc);
@@ -138,7 +138,7 @@ fn has_i1(values: &[(u32, PropertyValue)]) -> bool
 // Appends the head of a written set.
 fn write_head(bytes: &mut Vec<u8>, set: &PropertySet) -> Result<(), Error>
     ensures ok { OnOk result (bytes.new.items ≡ bytes.old.items ++ head_bytes set.now.props) }
-    ensures err { IfErr result (λ e. e ≡ Memory) }
+    ensures errors { IfErr result (λ e. e ≡ Memory) }
 {
     let version = u16::from(has_i1(set.properties()));
     write_u16(bytes, BYTE_ORDER_MARK)?;
@@ -155,7 +155,7 @@ fn write_head(bytes: &mut Vec<u8>, set: &PropertySet) -> Result<(), Error>
 // The bytes of a set, as they are written.
 pub(crate) fn set_bytes(alloc: Global, set: &PropertySet) -> Result<Vec<u8>, Error>
     ensures ok { IfOk result (λ bytes. bytes.items ≡ props_bytes set.now.props) }
-    ensures err { IfErr result (λ e. (e ≡ Memory)
+    ensures errors { IfErr result (λ e. (e ≡ Memory)
         ⊎ ((e ≡ InvalidInput) × (is_in_size set.now.props ≡ false))) }
 {
     let values = set.properties();

@@ -23,11 +23,11 @@ use Rattle.msi_tables.specs.Rows.{Row}
 use Rattle.msi_tables.specs.Table.{row_data}
 use Rattle.msi_tables.proofs.Keys.{datum_cmp_total}
 use Rattle.msi_tables.proofs.Searches.{position_cons}
-use Rattle.msi_expr.specs.Formula.{Formula, literal, column, unary, two, both, either, column_name, equated_in, is_equality, or_null, pair_of, worth}
+use Rattle.msi_expr.specs.Formula.{Formula, literal, column, unary, two, both, either, column_name, equated_in, is_equality, or_null, pair_of, value_of_formula}
 use Rattle.msi_expr.specs.Conditions.{matches}
 use Rattle.msi_expr.specs.declared.operators.BinOp.{BinOp}
 use Rattle.msi_expr.specs.declared.operators.BinOp.TheVariants as binary_op
-use Rattle.msi_query.specs.Grouped.{AreGrouped, Groups, IsEquation, IsIndexed, group_rows, has_value, rows_lent, rows_with, value_in}
+use Rattle.msi_query.specs.Grouped.{AreGrouped, Groups, IsEquation, RightRowsAreGrouped, group_rows, has_value, rows_lent, rows_with, value_in}
 use Rattle.msi_query.specs.Query.{pairs_with}
 use Rattle.msi_values.proofs.DataOrder.{is_equal, turned_equal}
 
@@ -118,7 +118,7 @@ decided : (columns : List Column) (on : Formula) (a b : List ℕ) (i j : ℕ) �
     → (pool : Pool) (row : Row) → matches pool columns (Some on) row ≡ is_eq (datum_cmp (value_in pool row i) (value_in pool row j))
 decided columns on a b i j is one other pool row =
     let cells = named_cells columns (row_data pool row) in
-    ap (λ f. counts_as_true (worth cells f)) (equated on a b is)
+    ap (λ f. counts_as_true (value_of_formula cells f)) (equated on a b is)
     ∙ counted_truth (is_eq (datum_cmp (or_null (cell_named a cells)) (or_null (cell_named b cells))))
     ∙ ap₂ (λ x y. is_eq (datum_cmp x y)) (named_at a columns (row_data pool row) i one) (named_at b columns (row_data pool row) j other)
 
@@ -164,7 +164,7 @@ module _ (pool : Pool) (columns : List Column) (on : Formula) (width place right
       ap (λ rs. pairs_with pool columns on rs left) (given ∙ grouped value ∙ ap (λ d. filter (has_value pool right d) rows) said) ∙ same_pairs rows
 
 pub indexed_pairs : (pool : Pool) (columns : List Column) (on : Formula) (width place : ℕ) (left : Row) (rows found : List Row) (groups : Groups) (value : BorrowedValue) → length left ≡ width
-    → borrowed_datum value ≡ value_in pool left place → found ≡ rows_with groups value → IsIndexed pool columns on width rows (Some (place, groups)) → pairs_with pool columns on found left ≡ pairs_with pool columns on rows left
+    → borrowed_datum value ≡ value_in pool left place → found ≡ rows_with groups value → RightRowsAreGrouped pool columns on width rows (Some (place, groups)) → pairs_with pool columns on found left ≡ pairs_with pool columns on rows left
 indexed_pairs pool columns on width place left rows found groups value whole said given index =
     found_pairs pool columns on width place index.0 index.1 left whole rows found groups value index.2 said given
 

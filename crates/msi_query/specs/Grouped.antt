@@ -55,5 +55,5 @@ pub record IsEquation (columns : List Column) (on : Formula) (width left right :
   pub decides : (pool : Pool) (row : Row) → matches pool columns (Some on) row ≡ has_value pool (width + right) (value_in pool row left) row
 
 -- the right rows are grouped by what the condition asks for, where it is such an equation
-abbrev pub IsIndexed : Pool → List Column → Formula → ℕ → List Row → Option (ℕ × Groups) → Type 0
-IsIndexed pool columns on width rows index = IfSome index (λ x. (right : ℕ) × IsEquation columns on width x.0 right × AreGrouped pool right rows x.1)
+abbrev pub RightRowsAreGrouped : Pool → List Column → Formula → ℕ → List Row → Option (ℕ × Groups) → Type 0
+RightRowsAreGrouped pool columns on width rows index = IfSome index (λ x. (right : ℕ) × IsEquation columns on width x.0 right × AreGrouped pool right rows x.1)

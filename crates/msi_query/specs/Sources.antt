@@ -5,8 +5,8 @@ use Rattle.cfb_medium.specs.declared.error.Error.TheVariants.{InvalidInput, Memo
 use Rattle.msi_tables.specs.Table.{Table}
 
 -- the tables by their names
-abbrev pub Tables : Type 0
-Tables = List ℕ → Option Table
+abbrev pub TablesByName : Type 0
+TablesByName = List ℕ → Option Table
 
 -- a table isn't there, or a column
 abbrev pub IsRefusedSelect : Error → Type 0
@@ -14,7 +14,7 @@ IsRefusedSelect e = (e ≡ NotFound) ⊎ (e ≡ InvalidInput)
 
 -- The answer is what a definition says of the tables, whichever the source is said to have, its value seen so; a fault of the source and want of memory
 -- may come in its place.
-abbrev pub AnswersOf : {X : Type 0} → (Tables → Type 0) → (Error → Type 0) → (X → Table) → Result X Error → (Tables → Result Table Error) → Type 0
+abbrev pub AnswersOf : {X : Type 0} → (TablesByName → Type 0) → (Error → Type 0) → (X → Table) → Result X Error → (TablesByName → Result Table Error) → Type 0
 AnswersOf has is_fault see r expected =
-    MatchResult r (λ x. (tables : Tables) → has tables → expected tables ≡ Ok (see x))
-    (λ e. (e ≡ Memory) ⊎ is_fault e ⊎ (IsRefusedSelect e × ((tables : Tables) → has tables → expected tables ≡ Err e)))
+    MatchResult r (λ x. (tables : TablesByName) → has tables → expected tables ≡ Ok (see x))
+    (λ e. (e ≡ Memory) ⊎ is_fault e ⊎ (IsRefusedSelect e × ((tables : TablesByName) → has tables → expected tables ≡ Err e)))

@@ -7,7 +7,7 @@ ghost use Rattle.msi_expr.specs.Conditions.{knows_condition, matches, condition_
 ghost use Rattle.msi_columns.specs.Column.{column_place, has_column};
 ghost use Rattle.msi_columns.specs.Held.{columns_of};
 ghost use Rattle.msi_tables.specs.Held.{heading_of, rows_held};
-ghost use Rattle.msi_texts.specs.Results.{Answers};
+ghost use Rattle.msi_texts.specs.Results.{ReturnsOrOutOfMemory};
 ghost use Rattle.std.specs.List.{filter_map, list_all};
 ghost use Rattle.std.specs.Prelude.{◌≡◌, ◌⊎◌, filter, map, string_bytes, IfErr, IfOk, IsTrue, Ok};
 ghost use Rattle.std.specs.Rc.{rc_value};
@@ -28,7 +28,8 @@ pub(crate) fn cut(
     condition: &Option<Expr>,
     found: (Table, Vec<Vec<ValueRef>>),
 ) -> Result<(Table, Vec<Vec<ValueRef>>), Error>
-    ensures answer { Answers answered result (cut pool.now.pool (map string_bytes names.now)
+    ensures answer { ReturnsOrOutOfMemory answered result
+        (cut pool.now.pool (map string_bytes names.now)
         (condition_of condition.now) (answered found)) }
     ensures kind { IfErr result (λ e. (e ≡ Memory) ⊎ (e ≡ InvalidInput)) }
     ensures width { IfOk result (λ cut. (heading_of cut.0).long ≡ (heading_of found.0).long) }
@@ -66,7 +67,7 @@ fn filtered_rows(
     ensures ok { IfOk result (λ kept. rows_held kept.items
         ≡ filter (matches pool.now.pool (heading_of table.now).columns (condition_of condition.now))
         (rows_held rows.items)) }
-    ensures err { IfErr result (λ e. e ≡ Memory) }
+    ensures errors { IfErr result (λ e. e ≡ Memory) }
 {
     let shared = Rc::new(alloc, table.clone(alloc)?)?;
     copies_let_through(alloc, pool, &shared, condition, &rows)
@@ -85,7 +86,7 @@ fn copies_let_through(
     ensures ok { IfOk result (λ kept. rows_held kept.items
         ≡ filter (matches pool.now.pool (heading_of (rc_value table.now)).columns
         (condition_of condition.now)) (rows_held rows.now)) }
-    ensures err { IfErr result (λ e. e ≡ Memory) }
+    ensures errors { IfErr result (λ e. e ≡ Memory) }
 {
     let mut kept = Vec::new(alloc);
     for row in rows {
@@ -103,7 +104,7 @@ fn projected_rows(
     table: Table,
     rows: Vec<Vec<ValueRef>>,
 ) -> Result<(Table, Vec<Vec<ValueRef>>), Error>
-    ensures answer { Answers answered result (Ok
+    ensures answer { ReturnsOrOutOfMemory answered result (Ok
         (projected (map string_bytes names.now) (table_held table rows.items))) }
     ensures width { IfOk result (λ cut. (heading_of cut.0).long ≡ (heading_of table).long) }
 {
@@ -121,7 +122,7 @@ fn projected_rows(
 fn places_of(alloc: Global, table: &Table, names: &[String]) -> Result<Vec<usize>, Error>
     ensures ok { IfOk result (λ places. places.items
         ≡ filter_map (column_place (heading_of table.now).columns) (map string_bytes names.now)) }
-    ensures err { IfErr result (λ e. e ≡ Memory) }
+    ensures errors { IfErr result (λ e. e ≡ Memory) }
 {
     let mut places = Vec::new(alloc);
     for name in names {
@@ -136,7 +137,7 @@ fn places_of(alloc: Global, table: &Table, names: &[String]) -> Result<Vec<usize
 fn columns_at(alloc: Global, places: &[usize], columns: &[Column]) -> Result<Vec<Column>, Error>
     ensures ok { IfOk result (λ cut. columns_of cut.items
         ≡ parts_at places.now (columns_of columns.now)) }
-    ensures err { IfErr result (λ e. e ≡ Memory) }
+    ensures errors { IfErr result (λ e. e ≡ Memory) }
 {
     let mut cut = Vec::new(alloc);
     for place in places {
@@ -155,7 +156,7 @@ fn rows_at(
 ) -> Result<Vec<Vec<ValueRef>>, Error>
     ensures ok { IfOk result (λ cut. rows_held cut.items
         ≡ map (parts_at places.now) (rows_held rows.now)) }
-    ensures err { IfErr result (λ e. e ≡ Memory) }
+    ensures errors { IfErr result (λ e. e ≡ Memory) }
 {
     let mut cut = Vec::new(alloc);
     for row in rows {
@@ -167,7 +168,7 @@ fn rows_at(
 // The cells at these places.
 fn cells_at(alloc: Global, places: &[usize], row: &[ValueRef]) -> Result<Vec<ValueRef>, Error>
     ensures ok { IfOk result (λ cells. cells.items ≡ parts_at places.now row.now) }
-    ensures err { IfErr result (λ e. e ≡ Memory) }
+    ensures errors { IfErr result (λ e. e ≡ Memory) }
 {
     let mut cells = Vec::new(alloc);
     for place in places {

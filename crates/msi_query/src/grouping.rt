@@ -2,7 +2,7 @@
 ghost use Rattle.cfb_medium.specs.declared.error.Error.TheVariants.{Memory};
 ghost use Rattle.msi_columns.specs.Column.{Column};
 ghost use Rattle.msi_expr.specs.Formula.{Formula, formula_of};
-ghost use Rattle.msi_query.specs.Grouped.{AreGrouped, IsEquation, IsIndexed, ValueIsTaken, rows_lent, rows_with, value_in};
+ghost use Rattle.msi_query.specs.Grouped.{AreGrouped, IsEquation, RightRowsAreGrouped, ValueIsTaken, rows_lent, rows_with, value_in};
 ghost use Rattle.msi_query.specs.Query.{pairs_with};
 ghost use Rattle.msi_tables.specs.Held.{heading_of, rows_held};
 ghost use Rattle.msi_values.specs.Borrowed.{borrowed_datum};
@@ -52,7 +52,7 @@ fn rows_by_value<'a>(
     rows: &'a [Vec<ValueRef>],
 ) -> Result<BTreeMap<BorrowedValue<'a>, Vec<&'a [ValueRef]>>, Error>
     ensures ok { IfOk result (AreGrouped pool.now.pool place (rows_held rows.now)) }
-    ensures err { IfErr result (λ e. e ≡ Memory) }
+    ensures errors { IfErr result (λ e. e ≡ Memory) }
 {
     let mut groups = BTreeMap::new(alloc);
     for row in rows {
@@ -104,7 +104,7 @@ impl<'a> RightSide<'a> {
         ensures rows { IfOk result (λ side. side.rows.now ≡ rows.now) }
         ensures side { IfOk result (IsRightSide pool.now.pool (heading_of table.now).columns
             (formula_of on.now)) }
-        ensures err { IfErr result (λ e. e ≡ Memory) }
+        ensures errors { IfErr result (λ e. e ≡ Memory) }
     {
         let all = lent_rows(alloc, rows)?;
         let index = index_of(alloc, pool, table, on, own, rows)?;
@@ -137,9 +137,9 @@ fn index_of<'a>(
     width: usize,
     rows: &'a [Vec<ValueRef>],
 ) -> Result<Option<(usize, BTreeMap<BorrowedValue<'a>, Vec<&'a [ValueRef]>>)>, Error>
-    ensures ok { IfOk result (IsIndexed pool.now.pool (heading_of table.now).columns
+    ensures ok { IfOk result (RightRowsAreGrouped pool.now.pool (heading_of table.now).columns
         (formula_of on.now) width (rows_held rows.now)) }
-    ensures err { IfErr result (λ e. e ≡ Memory) }
+    ensures errors { IfErr result (λ e. e ≡ Memory) }
 {
     match equation(table, on, width) {
         Some((left, right)) => {
@@ -159,7 +159,7 @@ fn partners<'m, 'a>(
     all: &'m [&'a [ValueRef]],
 ) -> &'m [&'a [ValueRef]]
     ensures { (columns : List Column) (on : Formula)
-        → IsIndexed pool.now.pool columns on width (rows_lent all.now) index.now
+        → RightRowsAreGrouped pool.now.pool columns on width (rows_lent all.now) index.now
         → pairs_with pool.now.pool columns on (rows_lent result.now) left.now
         ≡ pairs_with pool.now.pool columns on (rows_lent all.now) left.now }
 {
@@ -191,7 +191,7 @@ fn rows_of_value<'m, 'a>(
 // All rows, where they stand. The one error is `Memory`.
 fn lent_rows<'a>(alloc: Global, rows: &'a [Vec<ValueRef>]) -> Result<Vec<&'a [ValueRef]>, Error>
     ensures ok { IfOk result (λ lent. rows_lent lent.items ≡ rows_held rows.now) }
-    ensures err { IfErr result (λ e. e ≡ Memory) }
+    ensures errors { IfErr result (λ e. e ≡ Memory) }
 {
     let mut lent = Vec::new(alloc);
     for row in rows {

@@ -6,11 +6,11 @@ ghost use Rattle.msi_query.specs.Answered.{answered};
 ghost use Rattle.msi_query.specs.Grouped.{rows_lent};
 ghost use Rattle.msi_query.specs.RightSides.{IsRightSide};
 ghost use Rattle.msi_query.specs.Query.{inner_joined, left_joined, or_once, pairs_with};
-ghost use Rattle.msi_expr.specs.Conditions.{knows};
+ghost use Rattle.msi_expr.specs.Conditions.{has_named_columns};
 ghost use Rattle.msi_columns.specs.Column.{side_column, but_null};
 ghost use Rattle.msi_columns.specs.Held.{columns_of};
 ghost use Rattle.msi_tables.specs.Held.{heading_of, rows_held};
-ghost use Rattle.msi_texts.specs.Results.{Answers};
+ghost use Rattle.msi_texts.specs.Results.{ReturnsOrOutOfMemory};
 ghost use Rattle.std.specs.List.{flat_map};
 ghost use Rattle.std.specs.Prelude.{◌≡◌, ◌⊎◌, ◌++◌, map, replicate, IfErr, IfOk, IsTrue, OnOk};
 ghost use Rattle.std.specs.Rc.{rc_value};
@@ -32,7 +32,8 @@ pub(crate) fn inner_joined(
     left: (Table, Vec<Vec<ValueRef>>),
     right: (Table, Vec<Vec<ValueRef>>),
 ) -> Result<(Table, Vec<Vec<ValueRef>>), Error>
-    ensures answer { Answers answered result (inner_joined pool.now.pool (formula_of on.now)
+    ensures answer { ReturnsOrOutOfMemory answered result
+        (inner_joined pool.now.pool (formula_of on.now)
         (answered left) (answered right)) }
     ensures kind { IfErr result (λ e. (e ≡ Memory) ⊎ (e ≡ InvalidInput)) }
     ensures width { IfOk result (λ joined. (heading_of joined.0).long ≡ pool.now.pool.long) }
@@ -58,7 +59,8 @@ pub(crate) fn left_joined(
     left: (Table, Vec<Vec<ValueRef>>),
     right: (Table, Vec<Vec<ValueRef>>),
 ) -> Result<(Table, Vec<Vec<ValueRef>>), Error>
-    ensures answer { Answers answered result (left_joined pool.now.pool (formula_of on.now)
+    ensures answer { ReturnsOrOutOfMemory answered result
+        (left_joined pool.now.pool (formula_of on.now)
         (answered left) (answered right)) }
     ensures kind { IfErr result (λ e. (e ≡ Memory) ⊎ (e ≡ InvalidInput)) }
     ensures width { IfOk result (λ joined. (heading_of joined.0).long ≡ pool.now.pool.long) }
@@ -81,7 +83,7 @@ pub(crate) fn left_joined(
 fn prefixed_columns(alloc: Global, prefix: &str, columns: &[Column]) -> Result<Vec<Column>, Error>
     ensures ok { IfOk result (λ copies. columns_of copies.items
         ≡ map (side_column prefix.now) (columns_of columns.now)) }
-    ensures err { IfErr result (λ e. e ≡ Memory) }
+    ensures errors { IfErr result (λ e. e ≡ Memory) }
 {
     let mut copies = Vec::new(alloc);
     for column in columns {
@@ -94,7 +96,7 @@ fn prefixed_columns(alloc: Global, prefix: &str, columns: &[Column]) -> Result<V
 fn prefixed_nullable(alloc: Global, prefix: &str, columns: &[Column]) -> Result<Vec<Column>, Error>
     ensures ok { IfOk result (λ copies. columns_of copies.items
         ≡ map but_null (map (side_column prefix.now) (columns_of columns.now))) }
-    ensures err { IfErr result (λ e. e ≡ Memory) }
+    ensures errors { IfErr result (λ e. e ≡ Memory) }
 {
     let mut copies = Vec::new(alloc);
     for column in columns {
@@ -114,11 +116,12 @@ fn inner_rows(
     right: &[Vec<ValueRef>],
     own: usize,
 ) -> Result<Vec<Vec<ValueRef>>, Error>
-    requires { IsTrue (knows (heading_of (rc_value table.now)).columns (formula_of on.now)) }
+    requires { IsTrue
+        (has_named_columns (heading_of (rc_value table.now)).columns (formula_of on.now)) }
     ensures ok { IfOk result (λ rows. rows_held rows.items
         ≡ flat_map (pairs_with pool.now.pool (heading_of (rc_value table.now)).columns
         (formula_of on.now) (rows_held right.now)) (rows_held left.now)) }
-    ensures err { IfErr result (λ e. e ≡ Memory) }
+    ensures errors { IfErr result (λ e. e ≡ Memory) }
 {
     let side = RightSide::new(alloc, pool, table, on, own, right)?;
     inner_pairs(alloc, pool, table, on, left, &side)
@@ -135,12 +138,13 @@ fn left_rows(
     own: usize,
     width: usize,
 ) -> Result<Vec<Vec<ValueRef>>, Error>
-    requires { IsTrue (knows (heading_of (rc_value table.now)).columns (formula_of on.now)) }
+    requires { IsTrue
+        (has_named_columns (heading_of (rc_value table.now)).columns (formula_of on.now)) }
     ensures ok { IfOk result (λ rows. rows_held rows.items
         ≡ flat_map (λ row. or_once (row ++ replicate width cell.Null)
         (pairs_with pool.now.pool (heading_of (rc_value table.now)).columns (formula_of on.now)
         (rows_held right.now) row)) (rows_held left.now)) }
-    ensures err { IfErr result (λ e. e ≡ Memory) }
+    ensures errors { IfErr result (λ e. e ≡ Memory) }
 {
     let side = RightSide::new(alloc, pool, table, on, own, right)?;
     left_pairs(alloc, pool, table, on, left, &side, width)
@@ -155,13 +159,14 @@ fn inner_pairs<'a>(
     left: &[Vec<ValueRef>],
     side: &RightSide<'a>,
 ) -> Result<Vec<Vec<ValueRef>>, Error>
-    requires knows { IsTrue (knows (heading_of (rc_value table.now)).columns (formula_of on.now)) }
+    requires knows { IsTrue
+        (has_named_columns (heading_of (rc_value table.now)).columns (formula_of on.now)) }
     requires side { IsRightSide pool.now.pool (heading_of (rc_value table.now)).columns
         (formula_of on.now) side.now }
     ensures ok { IfOk result (λ rows. rows_held rows.items
         ≡ flat_map (pairs_with pool.now.pool (heading_of (rc_value table.now)).columns
         (formula_of on.now) (rows_held side.now.rows.now)) (rows_held left.now)) }
-    ensures err { IfErr result (λ e. e ≡ Memory) }
+    ensures errors { IfErr result (λ e. e ≡ Memory) }
 {
     let mut rows = Vec::new(alloc);
     for row in left {
@@ -181,14 +186,15 @@ fn left_pairs<'a>(
     side: &RightSide<'a>,
     width: usize,
 ) -> Result<Vec<Vec<ValueRef>>, Error>
-    requires knows { IsTrue (knows (heading_of (rc_value table.now)).columns (formula_of on.now)) }
+    requires knows { IsTrue
+        (has_named_columns (heading_of (rc_value table.now)).columns (formula_of on.now)) }
     requires side { IsRightSide pool.now.pool (heading_of (rc_value table.now)).columns
         (formula_of on.now) side.now }
     ensures ok { IfOk result (λ rows. rows_held rows.items
         ≡ flat_map (λ row. or_once (row ++ replicate width cell.Null)
         (pairs_with pool.now.pool (heading_of (rc_value table.now)).columns (formula_of on.now)
         (rows_held side.now.rows.now) row)) (rows_held left.now)) }
-    ensures err { IfErr result (λ e. e ≡ Memory) }
+    ensures errors { IfErr result (λ e. e ≡ Memory) }
 {
     let mut rows = Vec::new(alloc);
     for row in left {
@@ -210,12 +216,13 @@ fn add_or_once(
     width: usize,
     rows: &mut Vec<Vec<ValueRef>>,
 ) -> Result<(), Error>
-    requires { IsTrue (knows (heading_of (rc_value table.now)).columns (formula_of on.now)) }
+    requires { IsTrue
+        (has_named_columns (heading_of (rc_value table.now)).columns (formula_of on.now)) }
     ensures ok { OnOk result (rows_held rows.new.items
         ≡ rows_held rows.old.items ++ or_once (left.now ++ replicate width cell.Null)
         (pairs_with pool.now.pool (heading_of (rc_value table.now)).columns (formula_of on.now)
         (rows_lent right.now) left.now)) }
-    ensures err { IfErr result (λ e. e ≡ Memory) }
+    ensures errors { IfErr result (λ e. e ≡ Memory) }
 {
     let before = rows.len();
     add_pairs(alloc, pool, table, on, left, right, rows)?;
@@ -236,12 +243,13 @@ fn add_pairs(
     right: &[&[ValueRef]],
     rows: &mut Vec<Vec<ValueRef>>,
 ) -> Result<(), Error>
-    requires { IsTrue (knows (heading_of (rc_value table.now)).columns (formula_of on.now)) }
+    requires { IsTrue
+        (has_named_columns (heading_of (rc_value table.now)).columns (formula_of on.now)) }
     ensures ok { OnOk result (rows_held rows.new.items
         ≡ rows_held rows.old.items ++ pairs_with pool.now.pool
         (heading_of (rc_value table.now)).columns (formula_of on.now) (rows_lent right.now)
         left.now) }
-    ensures err { IfErr result (λ e. e ≡ Memory) }
+    ensures errors { IfErr result (λ e. e ≡ Memory) }
 {
     for other in right {
         let row = beside(alloc, left, other)?;
@@ -255,7 +263,7 @@ fn add_pairs(
 // A row of the cells of both.
 fn beside(alloc: Global, left: &[ValueRef], right: &[ValueRef]) -> Result<Vec<ValueRef>, Error>
     ensures ok { IfOk result (λ row. row.items ≡ left.now ++ right.now) }
-    ensures err { IfErr result (λ e. e ≡ Memory) }
+    ensures errors { IfErr result (λ e. e ≡ Memory) }
 {
     let mut row = Vec::from_slice(alloc, left)?;
     row.extend_from_slice(right)?;

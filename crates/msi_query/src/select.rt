@@ -2,7 +2,7 @@
 ghost use Rattle.msi_tables.specs.Held.{heading_of};
 ghost use Rattle.std.specs.Prelude.{◌≡◌, [], IfOk, Ok, Some, None, codes, map, option_map};
 ghost use Rattle.std.specs.Fmt.{DisplaysOnOk, ◌++?◌};
-ghost use Rattle.msi_texts.specs.Results.{Answers};
+ghost use Rattle.msi_texts.specs.Results.{ReturnsOrOutOfMemory};
 ghost use Rattle.msi_expr.specs.Formula.{formula_of};
 ghost use Rattle.msi_query.specs.Answered.{answered};
 ghost use Rattle.msi_query.specs.Printed.{is_bare, select_text, side_text, source_text};
@@ -44,7 +44,7 @@ pub enum Join {
 impl Select {
     /// A select of all columns and rows of the table of this name. `Memory` where there is no room for the name.
     pub fn table(alloc: Global, table_name: &str) -> Result<Select, Error>
-        ensures { Answers query_of result (Ok (query (table table_name.now) [] None)) }
+        ensures { ReturnsOrOutOfMemory query_of result (Ok (query (table table_name.now) [] None)) }
     {
         Ok(Select {
             from: Join::Table(String::from_str(alloc, table_name)?),
@@ -55,7 +55,7 @@ impl Select {
 
     /// A select of all columns of both, and of the pairs of rows for which the condition counts as true. `Memory` spends both.
     pub fn inner_join(self, alloc: Global, rhs: Select, on: Expr) -> Result<Select, Error>
-        ensures { Answers query_of result (Ok
+        ensures { ReturnsOrOutOfMemory query_of result (Ok
             (query (inner_join (query_of self) (query_of rhs) (formula_of on)) [] None)) }
     {
         let left = Box::new(alloc, self)?;
@@ -69,7 +69,7 @@ impl Select {
 
     /// The same, and of each row of this side without a partner that row once, with nulls. `Memory` spends both.
     pub fn left_join(self, alloc: Global, rhs: Select, on: Expr) -> Result<Select, Error>
-        ensures { Answers query_of result (Ok
+        ensures { ReturnsOrOutOfMemory query_of result (Ok
             (query (left_join (query_of self) (query_of rhs) (formula_of on)) [] None)) }
     {
         let left = Box::new(alloc, self)?;
@@ -83,7 +83,7 @@ impl Select {
 
     /// The same, and of its columns those of these names, in this order; none stands for all. `Memory` spends it.
     pub fn columns(self, alloc: Global, column_names: &[&str]) -> Result<Select, Error>
-        ensures { Answers query_of result (Ok
+        ensures { ReturnsOrOutOfMemory query_of result (Ok
             (query (source_in (query_of self)) (map (λ name. name.now) column_names.now)
             (condition_in (query_of self)))) }
     {
@@ -100,7 +100,7 @@ impl Select {
 
     /// The same, and of its rows those alone for which this condition counts as true too. `Memory` spends it.
     pub fn with(self, alloc: Global, condition: Expr) -> Result<Select, Error>
-        ensures { Answers query_of result (Ok
+        ensures { ReturnsOrOutOfMemory query_of result (Ok
             (query (source_in (query_of self)) (names_in (query_of self))
             (narrowed (condition_in (query_of self)) (formula_of condition)))) }
     {
@@ -126,7 +126,7 @@ impl Select {
         ensures answer { AnswersOf (S.has_tables source.old) (S.has_cause source.old source.new)
             answered result (λ tables. selected tables pool.now.pool (query_of self.now)) }
         ensures width { IfOk result (λ found. (heading_of found.0).long ≡ pool.now.pool.long) }
-        ensures rests { S.rests source.old source.new }
+        ensures only_reads { S.rests source.old source.new }
     {
         let found = self.from.found_rows(alloc, source, pool)?;
         cut(alloc, pool, &self.column_names, &self.condition, found)
@@ -205,7 +205,7 @@ impl Join {
         ensures answer { AnswersOf (S.has_tables source.old) (S.has_cause source.old source.new)
             answered result (λ tables. source_rows tables pool.now.pool (source_of self.now)) }
         ensures width { IfOk result (λ found. (heading_of found.0).long ≡ pool.now.pool.long) }
-        ensures rests { S.rests source.old source.new }
+        ensures only_reads { S.rests source.old source.new }
     {
         match self {
             Join::Table(name) => stored_table(alloc, source, pool, name),

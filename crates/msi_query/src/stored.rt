@@ -24,7 +24,7 @@ pub(crate) fn stored_table<S: TableSource>(
     ensures answer { AnswersOf (S.has_tables source.old) (S.has_cause source.old source.new)
         answered result (λ tables. or_refused (tables name.now) NotFound) }
     ensures width { IfOk result (λ found. (heading_of found.0).long ≡ pool.now.pool.long) }
-    ensures rests { S.rests source.old source.new }
+    ensures only_reads { S.rests source.old source.new }
 {
     let table = match source.table(name) {
         Some(table) => copy_of_table(alloc, table, pool.long_string_refs())?,
@@ -38,7 +38,7 @@ pub(crate) fn stored_table<S: TableSource>(
 fn copy_of_table(alloc: Global, table: &Table, long: bool) -> Result<Table, Error>
     ensures ok { IfOk result (λ copy. heading_of copy
         ≡ record (heading_of table.now) { long = long }) }
-    ensures err { IfErr result (λ e. e ≡ Memory) }
+    ensures errors { IfErr result (λ e. e ≡ Memory) }
 {
     let name = String::from_str(alloc, table.name())?;
     let columns = copied_columns(alloc, table.columns())?;
@@ -48,7 +48,7 @@ fn copy_of_table(alloc: Global, table: &Table, long: bool) -> Result<Table, Erro
 // Copies of columns.
 fn copied_columns(alloc: Global, columns: &[Column]) -> Result<Vec<Column>, Error>
     ensures ok { IfOk result (λ copies. columns_of copies.items ≡ columns_of columns.now) }
-    ensures err { IfErr result (λ e. e ≡ Memory) }
+    ensures errors { IfErr result (λ e. e ≡ Memory) }
 {
     let mut copies = Vec::new(alloc);
     for column in columns {

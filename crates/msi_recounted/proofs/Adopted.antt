@@ -2,34 +2,34 @@
 use Rattle.std.proofs.Common.{◌≡◌, ◌∙◌, true, sym, ap, subst, Ok}
 use Rattle.std.specs.Prelude.{◌≤◌, All, IsTrue, length}
 use Rattle.std.specs.List.{list_all}
-use Rattle.cfb_tree.specs.Names.{Letters}
+use Rattle.cfb_tree.specs.Names.{CaseTable}
 use Rattle.cfb_tree.specs.Tree.{Tree}
-use Rattle.msi_meaning.proofs.PacksOnce.{ok_same, some_same}
-use Rattle.msi_meaning.proofs.SoundAnyway.{all_give}
-use Rattle.msi_meaning.specs.Package.{Packed, Packs}
-use Rattle.msi_meaning.specs.Sound.{IsSoundPackage, uses_of}
+use Rattle.msi_spec.proofs.PacksOnce.{ok_same, some_same}
+use Rattle.msi_spec.proofs.SoundAnyway.{all_give}
+use Rattle.msi_spec.specs.Package.{PackageContent, TreePacksPackage}
+use Rattle.msi_spec.specs.Sound.{IsSoundPackage, refcounts_of}
 use Rattle.msi_pool.proofs.PoolFound.{pool_is_begun, texts_are_stored, told}
 use Rattle.msi_pool.specs.Pool.{last_place, pool_stream}
 use Rattle.msi_props.specs.Props.{texts_give_back as summary_gives_back}
-use Rattle.msi_pool.specs.PoolReading.{gives_back, texts_give_back}
+use Rattle.msi_pool.specs.PoolReading.{text_round_trips, texts_give_back}
 use Rattle.msi_texts.specs.Results.{◌>>=◌}
 use Rattle.msi_recounted.proofs.WrittenCounts.{Gives, HoldsAgain, written_again}
 use Rattle.msi_recounted.specs.Recounted.{CanBeAdopted, CanBeRecounted, GotCounts, recounted}
 
-module _ (letters : Letters) (old new : Tree) (P : Packed) (packs : Packs letters old P) (can : CanBeRecounted letters old P) (got : GotCounts letters old P new) where
+module _ (letters : CaseTable) (old new : Tree) (P : PackageContent) (packs : TreePacksPackage letters old P) (can : CanBeRecounted letters old P) (got : GotCounts letters old P new) where
   -- what the builder of the old streams tells
-  told_back : texts_give_back (told packs.pool_bytes packs.data_bytes P.pool packs.pool) packs.data_bytes ≡ Ok (list_all (λ s. gives_back P.pool.page s.0) packs.pool.stored)
-  told_back = ap (λ r. r >>= λ stored. Ok (list_all (λ s. gives_back P.pool.page s.0) stored)) (texts_are_stored packs.pool_bytes packs.data_bytes P.pool packs.pool)
+  told_back : texts_give_back (told packs.pool_bytes packs.data_bytes P.pool packs.pool) packs.data_bytes ≡ Ok (list_all (λ s. text_round_trips P.pool.page s.0) packs.pool.stored)
+  told_back = ap (λ r. r >>= λ stored. Ok (list_all (λ s. text_round_trips P.pool.page s.0) stored)) (texts_are_stored packs.pool_bytes packs.data_bytes P.pool packs.pool)
 
   give : All (Gives P.pool.page) packs.pool.stored
   give = all_give P.pool.page packs.pool.stored
-      (ok_same (list_all (λ s. gives_back P.pool.page s.0) packs.pool.stored) true
+      (ok_same (list_all (λ s. text_round_trips P.pool.page s.0) packs.pool.stored) true
       (sym told_back ∙ can.texts packs.pool_bytes packs.data_bytes (told packs.pool_bytes packs.data_bytes P.pool packs.pool) packs.pool_at packs.data_at (pool_is_begun packs.pool_bytes packs.data_bytes P.pool packs.pool)))
 
-  pub again : HoldsAgain (uses_of P.tables) packs.data_bytes P.pool
-  again = written_again (uses_of P.tables) packs.pool_bytes packs.data_bytes P.pool packs.pool give can.few can.used
+  pub again : HoldsAgain (refcounts_of P.tables) packs.data_bytes P.pool
+  again = written_again (refcounts_of P.tables) packs.pool_bytes packs.data_bytes P.pool packs.pool give can.few can.used
 
-  abbrev pub packed : Packs letters new (recounted P)
+  abbrev pub packed : TreePacksPackage letters new (recounted P)
   packed = record {
     class = got.stores.class;
     pool_bytes = pool_stream (recounted P).pool;
@@ -72,7 +72,7 @@ module _ (letters : Letters) (old new : Tree) (P : Packed) (packs : Packs letter
   }
 
   -- and back
-  pub sound_before : (q : Packs letters new (recounted P)) → IsSoundPackage letters new (recounted P) q → length P.pool.places ≤ last_place true → CanBeAdopted letters old P
+  pub sound_before : (q : TreePacksPackage letters new (recounted P)) → IsSoundPackage letters new (recounted P) q → length P.pool.places ≤ last_place true → CanBeAdopted letters old P
   sound_before q s named = record {
     sound = record {
       counted = record { references = s.references; counts = s.counts };
@@ -97,9 +97,9 @@ module _ (letters : Letters) (old new : Tree) (P : Packed) (packs : Packs letter
     named = named;
   }
 
-module _ (letters : Letters) (old new : Tree) (P : Packed) (packs : Packs letters old P) where
+module _ (letters : CaseTable) (old new : Tree) (P : PackageContent) (packs : TreePacksPackage letters old P) where
   recounts : CanBeAdopted letters old P → CanBeRecounted letters old P
   recounts is = record { texts = is.sound.gives_back.pool; few = is.few; used = is.sound.free }
 
-  pub adopted : CanBeAdopted letters old P → GotCounts letters old P new → (packed : Packs letters new (recounted P)) × IsSoundPackage letters new (recounted P) packed
+  pub adopted : CanBeAdopted letters old P → GotCounts letters old P new → (packed : TreePacksPackage letters new (recounted P)) × IsSoundPackage letters new (recounted P) packed
   adopted is got = (packed letters old new P packs (recounts is) got, sound_then letters old new P packs (recounts is) got is)

@@ -5,7 +5,7 @@ use Rattle.std.specs.List.{flat_map, list_all}
 use Rattle.std.proofs.lemmas.Bool.Decides.{nat_tests}
 use Rattle.std.proofs.lemmas.List.{append_assoc, drop_more}
 use Rattle.std.proofs.lemmas.List.Elements.{All-cons, All-head, All-tail}
-use Rattle.msi_pool.specs.Pool.{Place, at_place, head_of, no_place, stored_place}
+use Rattle.msi_pool.specs.Pool.{PoolEntry, pool_entry_at, head_of, empty_pool_entry, stored_place}
 use Rattle.msi_pool.specs.PoolKept.{AreFreeEmpty}
 use Rattle.msi_pool.specs.PoolState.{length_limit}
 use Rattle.msi_texts.specs.Page.{encoded}
@@ -13,15 +13,15 @@ use Rattle.msi_texts.specs.declared.codepage.CodePage.{CodePage}
 use Rattle.msi_recounted.specs.Counts.{with_uses}
 
 -- the place behind i others, with as many uses
-abbrev pub counted_at : (ℕ → ℕ) → List Place → ℕ → Place
-counted_at uses ps i = record { text = (get_or ps i no_place).text; count = uses (i + 1) }
+abbrev pub counted_at : (ℕ → ℕ) → List PoolEntry → ℕ → PoolEntry
+counted_at uses ps i = record { text = (get_or ps i empty_pool_entry).text; count = uses (i + 1) }
 
-pub at_next : (ps : List Place) (i : ℕ) → at_place ps (i + 1) ≡ get_or ps i no_place
-at_next ps i = ap (λ j. get_or ps j no_place) (omega arith)
+pub at_next : (ps : List PoolEntry) (i : ℕ) → pool_entry_at ps (i + 1) ≡ get_or ps i empty_pool_entry
+at_next ps i = ap (λ j. get_or ps j empty_pool_entry) (omega arith)
 
-module _ (uses : ℕ → ℕ) (ps : List Place) where
+module _ (uses : ℕ → ℕ) (ps : List PoolEntry) where
   pub one_more : (i : ℕ) → i < length ps → with_uses uses (i + 1) (drop i ps) ≡ counted_at uses ps i ∷ with_uses uses (i + 1 + 1) (drop (i + 1) ps)
-  one_more i below = ap (with_uses uses (i + 1)) (drop_more ps i no_place below)
+  one_more i below = ap (with_uses uses (i + 1)) (drop_more ps i empty_pool_entry below)
 
   -- those that were written, and those to come
   pub heads_more : (page : CodePage) (old new all : List ℕ) (i : ℕ) → i < length ps
@@ -35,11 +35,11 @@ module _ (uses : ℕ → ℕ) (ps : List Place) where
       ∙ ap (λ qs. old ++ flat_map head_of (map (stored_place page) qs)) (sym (one_more i below))
       ∙ so_far
 
-  abbrev Empty : Place → Type 0
+  abbrev Empty : PoolEntry → Type 0
   Empty p = p.count ≡ 0 → p.text ≡ []
 
   -- the next place is not free, or is empty
-  pub used_more : (i : ℕ) → i < length ps → (uses (i + 1) ≡ 0 → (get_or ps i no_place).text ≡ [])
+  pub used_more : (i : ℕ) → i < length ps → (uses (i + 1) ≡ 0 → (get_or ps i empty_pool_entry).text ≡ [])
       → AreFreeEmpty (with_uses uses (i + 1) (drop i ps)) ↔ AreFreeEmpty (with_uses uses (i + 1 + 1) (drop (i + 1) ps))
   used_more i below so = (
     λ all. All-tail Empty (counted_at uses ps i) (with_uses uses (i + 1 + 1) (drop (i + 1) ps)) (subst AreFreeEmpty (one_more i below) all),
@@ -47,12 +47,12 @@ module _ (uses : ℕ → ℕ) (ps : List Place) where
   )
 
   -- it is free, and is not empty
-  pub unused_text : (i : ℕ) → i < length ps → uses (i + 1) ≡ 0 → ((get_or ps i no_place).text ≡ [] → ⊥)
+  pub unused_text : (i : ℕ) → i < length ps → uses (i + 1) ≡ 0 → ((get_or ps i empty_pool_entry).text ≡ [] → ⊥)
       → AreFreeEmpty (with_uses uses (i + 1) (drop i ps)) → ⊥
   unused_text i below none text all = text (All-head Empty (counted_at uses ps i) (with_uses uses (i + 1 + 1) (drop (i + 1) ps)) (subst AreFreeEmpty (one_more i below) all) none)
 
 -- a text that is too long
-pub too_long : (page : CodePage) (ps : List Place) (i : ℕ) → length_limit ≤ length (encoded page (get_or ps i no_place).text) → i < length ps
+pub too_long : (page : CodePage) (ps : List PoolEntry) (i : ℕ) → length_limit ≤ length (encoded page (get_or ps i empty_pool_entry).text) → i < length ps
     → list_all (λ s. nat_lt (length s.0) length_limit) (map (stored_place page) ps) ≡ false
 too_long page [] i long below = absurd (omega (arith, below))
 too_long page (p ∷ ps) zero long below = here (length (encoded page p.text)) (list_all (λ s. nat_lt (length s.0) length_limit) (map (stored_place page) ps)) long

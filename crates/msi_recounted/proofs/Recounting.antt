@@ -3,14 +3,14 @@ use Rattle.std.proofs.Common.{◌≡◌, ◌∙◌, ℕ, zero, suc, ◌+◌, ◌
 use Rattle.std.specs.Prelude.{◌||◌, ◌↔◌, All, Contains, IsTrue, Option, bytes_eq}
 use Rattle.std.specs.List.{list_any}
 use Rattle.std.proofs.lemmas.Bool.{cases_lt}
-use Rattle.cfb_tree.specs.Names.{Letters}
+use Rattle.cfb_tree.specs.Names.{CaseTable}
 use Rattle.cfb_tree.specs.Tree.{Tree}
-use Rattle.msi_meaning.proofs.Exact.{counted_down}
-use Rattle.msi_meaning.specs.Package.{Packed, rows_named}
-use Rattle.msi_meaning.specs.Sound.{uses_of}
-use Rattle.msi_meaning.specs.Split.{Stores}
-use Rattle.msi_meaning.specs.Uses.{TextsAreCounted, counts_of, left_at}
-use Rattle.msi_pool.specs.Pool.{Place, no_place}
+use Rattle.msi_spec.proofs.Exact.{counted_down}
+use Rattle.msi_spec.specs.Package.{PackageContent, rows_named}
+use Rattle.msi_spec.specs.Sound.{refcounts_of}
+use Rattle.msi_spec.specs.Split.{TreeStoresRest}
+use Rattle.msi_spec.specs.Uses.{RefcountsAreExact, counts_of, left_at}
+use Rattle.msi_pool.specs.Pool.{PoolEntry, empty_pool_entry}
 use Rattle.msi_pool.specs.Refs.{value_at}
 use Rattle.msi_pool.specs.declared.stringref.ValueRef.{ValueRef}
 use Rattle.msi_pool.specs.declared.stringref.ValueRef.TheVariants as cell
@@ -22,26 +22,26 @@ use Rattle.msi_recounted.specs.Counts.{with_uses}
 use Rattle.msi_recounted.specs.Recounted.{recounted}
 
 module _ (uses : ℕ → ℕ) where
-  same_text : (ps : List Place) (n k : ℕ) → (get_or (with_uses uses n ps) k no_place).text ≡ (get_or ps k no_place).text
+  same_text : (ps : List PoolEntry) (n k : ℕ) → (get_or (with_uses uses n ps) k empty_pool_entry).text ≡ (get_or ps k empty_pool_entry).text
   same_text [] n k = refl
   same_text (p ∷ ps) n zero = refl
   same_text (p ∷ ps) n (suc k) = same_text ps (n + 1) k
 
-  counted_place : (ps : List Place) (n k : ℕ) → k < length ps → left_at (counts_of (with_uses uses n ps)) k ≡ uses (n + k)
+  counted_place : (ps : List PoolEntry) (n k : ℕ) → k < length ps → left_at (counts_of (with_uses uses n ps)) k ≡ uses (n + k)
   counted_place [] n k below = absurd (omega (arith, below))
   counted_place (p ∷ ps) n zero below = ap uses (omega arith)
   counted_place (p ∷ ps) n (suc k) below = counted_place ps (n + 1) k (omega (arith, below)) ∙ ap uses (omega arith)
 
-  past_place : (ps : List Place) (n k : ℕ) → length ps ≤ k → left_at (counts_of (with_uses uses n ps)) k ≡ 0
+  past_place : (ps : List PoolEntry) (n k : ℕ) → length ps ≤ k → left_at (counts_of (with_uses uses n ps)) k ≡ 0
   past_place [] n k le = refl
   past_place (p ∷ ps) n zero le = absurd (omega (arith, le))
   past_place (p ∷ ps) n (suc k) le = past_place ps (n + 1) k (omega (arith, le))
 
-module _ (P : Packed) where
+module _ (P : PackageContent) where
   value_same : (v : ValueRef) → value_at (recounted P).pool v ≡ value_at P.pool v
   value_same cell.Null = refl
   value_same (cell.Int z) = refl
-  value_same (cell.Str n) = ap text (same_text (uses_of P.tables) P.pool.places 1 (n - 1))
+  value_same (cell.Str n) = ap text (same_text (refcounts_of P.tables) P.pool.places 1 (n - 1))
   value_same cell.Binary = refl
 
   row_same : (row : Row) → row_data (recounted P).pool row ≡ row_data P.pool row
@@ -59,17 +59,17 @@ module _ (P : Packed) where
   pub named_same : (name : List ℕ) → rows_named (recounted P) name ≡ rows_named P name
   named_same name = data_same (table_named P.tables name)
 
-  pub counted : uses_of P.tables 0 ≡ 0 → ((n : ℕ) → length P.pool.places < n → uses_of P.tables n ≡ 0) → TextsAreCounted (recounted P).pool P.tables
+  pub counted : refcounts_of P.tables 0 ≡ 0 → ((n : ℕ) → length P.pool.places < n → refcounts_of P.tables n ≡ 0) → RefcountsAreExact (recounted P).pool P.tables
   counted none past = (counted_down (recounted P).pool P.tables true none (record { taken = λ _. each; other = λ e. absurd (cc) })).0 refl
     where
-      each : (k : ℕ) → left_at (counts_of (recounted P).pool.places) k ≡ uses_of P.tables (suc k)
+      each : (k : ℕ) → left_at (counts_of (recounted P).pool.places) k ≡ refcounts_of P.tables (suc k)
       each k = by (cases_lt k (length P.pool.places))
         where
-          by : (k < length P.pool.places) ⊎ (length P.pool.places ≤ k) → left_at (counts_of (recounted P).pool.places) k ≡ uses_of P.tables (suc k)
-          by (inl below) = counted_place (uses_of P.tables) P.pool.places 1 k below ∙ ap (uses_of P.tables) (omega arith)
-          by (inr le) = past_place (uses_of P.tables) P.pool.places 1 k le ∙ sym (past (suc k) (omega (arith, le)))
+          by : (k < length P.pool.places) ⊎ (length P.pool.places ≤ k) → left_at (counts_of (recounted P).pool.places) k ≡ refcounts_of P.tables (suc k)
+          by (inl below) = counted_place (refcounts_of P.tables) P.pool.places 1 k below ∙ ap (refcounts_of P.tables) (omega arith)
+          by (inr le) = past_place (refcounts_of P.tables) P.pool.places 1 k le ∙ sym (past (suc k) (omega (arith, le)))
 
-pub stored : (letters : Letters) (tree : Tree) (P : Packed) → Stores letters tree P → Stores letters tree (recounted P)
+pub stored : (letters : CaseTable) (tree : Tree) (P : PackageContent) → TreeStoresRest letters tree P → TreeStoresRest letters tree (recounted P)
 stored letters tree P s = record {
   class = s.class;
   rising = s.rising;

@@ -6,7 +6,7 @@ use Rattle.std.specs.Str.{chars}
 use Rattle.std.proofs.lemmas.Bool.Decides.{nat_tests}
 use Rattle.std.proofs.lemmas.List.Elements.{All-cons, All-head, All-tail}
 use Rattle.msi_pool.proofs.PoolRoundTrip.{page_comes_back}
-use Rattle.msi_pool.specs.Pool.{AreHeads, IsHead, Place, Pool, Pooled, Stored, head_bytes, head_of, pool_stream, stored_of, stored_place, width_bit}
+use Rattle.msi_pool.specs.Pool.{AreHeads, IsHead, PoolEntry, Pool, Pooled, StoredText, head_bytes, head_of, pool_stream, stored_of, stored_place, width_bit}
 use Rattle.msi_pool.specs.PoolKept.{AreFreeEmpty}
 use Rattle.msi_texts.specs.Numbers.{le_bytes}
 use Rattle.msi_texts.specs.Page.{decoded, encoded, id_of}
@@ -36,36 +36,36 @@ empty_encoded page.Utf8 = refl
 empty_encoded _ = refl
 
 -- a text that gives back its bytes
-abbrev pub Gives : CodePage → Stored → Type 0
+abbrev pub Gives : CodePage → StoredText → Type 0
 Gives page s = encoded page (decoded page s.0) ≡ s.0
 
 -- its bytes are not too many for their field
-abbrev IsShort : Stored → Type 0
+abbrev IsShort : StoredText → Type 0
 IsShort s = length s.0 < 2 ^ 32
 
-are_short : (ss : List Stored) (heads : List ℕ) → AreHeads ss heads → All IsShort ss
+are_short : (ss : List StoredText) (heads : List ℕ) → AreHeads ss heads → All IsShort ss
 are_short [] heads h = λ k d l. absurd (omega (arith, l))
 are_short (s ∷ ss) heads h = All-cons IsShort s ss h.2.0 (are_short ss h.1 h.3)
 
 module _ (page : CodePage) (uses : ℕ → ℕ) where
   -- a place as it was read
-  abbrev as_read : Stored → Place
+  abbrev as_read : StoredText → PoolEntry
   as_read s = record { text = decoded page s.0; count = s.1 }
 
   -- places with other counts, and how they are written
-  abbrev again : ℕ → List Stored → List Place
+  abbrev again : ℕ → List StoredText → List PoolEntry
   again n ss = with_uses uses n (map as_read ss)
 
-  abbrev kept : ℕ → List Stored → List Stored
+  abbrev kept : ℕ → List StoredText → List StoredText
   kept n ss = map (stored_place page) (again n ss)
 
-  abbrev Empty : Place → Type 0
+  abbrev Empty : PoolEntry → Type 0
   Empty p = p.count ≡ 0 → p.text ≡ []
 
-  place_again : ℕ → Stored → Place
+  place_again : ℕ → StoredText → PoolEntry
   place_again n s = record { text = decoded page s.0; count = uses n }
 
-  heads_read : ((n : ℕ) → uses n ≤ 65535) → (ss : List Stored) (n : ℕ) → All (Gives page) ss → All IsShort ss → AreFreeEmpty (again n ss) → AreHeads (kept n ss) (flat_map head_of (kept n ss))
+  heads_read : ((n : ℕ) → uses n ≤ 65535) → (ss : List StoredText) (n : ℕ) → All (Gives page) ss → All IsShort ss → AreFreeEmpty (again n ss) → AreHeads (kept n ss) (flat_map head_of (kept n ss))
   heads_read few [] n give short free = omega arith
   heads_read few (s ∷ ss) n give short free =
       let here : encoded page (decoded page s.0) ≡ s.0 = All-head (Gives page) s ss give in
@@ -80,25 +80,25 @@ module _ (page : CodePage) (uses : ℕ → ℕ) where
         refl,
       )
 
-  texts_read : (ss : List Stored) (n : ℕ) → All (Gives page) ss → again n ss ≡ map as_read (kept n ss)
+  texts_read : (ss : List StoredText) (n : ℕ) → All (Gives page) ss → again n ss ≡ map as_read (kept n ss)
   texts_read [] n give = refl
   texts_read (s ∷ ss) n give =
-      ap₂ (λ (t : List ℕ) (qs : List Place). record { text = t; count = uses n } ∷ qs) (ap (decoded page) (sym (All-head (Gives page) s ss give)))
+      ap₂ (λ (t : List ℕ) (qs : List PoolEntry). record { text = t; count = uses n } ∷ qs) (ap (decoded page) (sym (All-head (Gives page) s ss give)))
       (texts_read ss (n + 1) (All-tail (Gives page) s ss give))
 
   -- the bytes of the texts are as they were
-  bytes_same : (ss : List Stored) (n : ℕ) → All (Gives page) ss → flat_map (λ s. s.0) (kept n ss) ≡ flat_map (λ s. s.0) ss
+  bytes_same : (ss : List StoredText) (n : ℕ) → All (Gives page) ss → flat_map (λ s. s.0) (kept n ss) ≡ flat_map (λ s. s.0) ss
   bytes_same [] n give = refl
   bytes_same (s ∷ ss) n give = ap₂ (λ (b : List ℕ) (bs : List ℕ). b ++ bs) (All-head (Gives page) s ss give) (bytes_same ss (n + 1) (All-tail (Gives page) s ss give))
 
-  give_again : (ss : List Stored) (n : ℕ) → All (Gives page) ss → All (Gives page) (kept n ss)
+  give_again : (ss : List StoredText) (n : ℕ) → All (Gives page) ss → All (Gives page) (kept n ss)
   give_again [] n give = λ k d l. absurd (omega (arith, l))
   give_again (s ∷ ss) n give =
       All-cons (Gives page) (stored_place page (record { text = decoded page s.0; count = uses n })) (kept (n + 1) ss)
       (ap (λ b. encoded page (decoded page b)) (All-head (Gives page) s ss give))
       (give_again ss (n + 1) (All-tail (Gives page) s ss give))
 
-  size_again : (ss : List Stored) (n : ℕ) → length (kept n ss) ≡ length ss
+  size_again : (ss : List StoredText) (n : ℕ) → length (kept n ss) ≡ length ss
   size_again [] n = refl
   size_again (s ∷ ss) n = ap (λ k. suc k) (size_again ss (n + 1))
 

@@ -1,9 +1,9 @@
 -- A pool with other counts.
 use Rattle.std.specs.Prelude.{ℕ, ◌+◌, ◌-◌, List, [], ◌∷◌, slice_index_or}
-use Rattle.msi_pool.specs.Pool.{Place, Pool}
+use Rattle.msi_pool.specs.Pool.{PoolEntry, Pool}
 
 -- the places from number n on, each with as many uses as are told of it
-abbrev pub with_uses : (ℕ → ℕ) → ℕ → List Place → List Place
+abbrev pub with_uses : (ℕ → ℕ) → ℕ → List PoolEntry → List PoolEntry
 with_uses uses n [] = []
 with_uses uses n (p ∷ ps) = record { text = p.text; count = uses n } ∷ with_uses uses (n + 1) ps
 

@@ -3,7 +3,7 @@ ghost use Rattle.std.specs.Prelude.{◌≡◌, ◌==◌, ◌||◌, ◌↔◌, �
 ghost use Rattle.std.specs.List.{list_all};
 ghost use Rattle.cfb_medium.specs.declared.error.Error.TheVariants.{InvalidInput, Memory};
 ghost use Rattle.msi_recounted.specs.Counts.{listed_uses, pool_with};
-ghost use Rattle.msi_pool.specs.Pool.{at_place, head_bytes, head_of, last_place, pool_stream, stored_of, stored_place};
+ghost use Rattle.msi_pool.specs.Pool.{pool_entry_at, head_bytes, head_of, last_place, pool_stream, stored_of, stored_place};
 ghost use Rattle.msi_pool.specs.PoolKept.{AreFreeEmpty};
 ghost use Rattle.msi_pool.specs.PoolState.{length_limit};
 ghost use Rattle.msi_texts.specs.Page.{encoded};
@@ -26,7 +26,7 @@ pub fn recounted_stream(alloc: Global, pool: &StringPool, uses: &[u16]) -> Resul
     requires few { length uses.now < 2 ^ 24 }
     ensures ok { IfOk result (λ bytes. bytes.items
         ≡ pool_stream (pool_with (listed_uses uses.now) pool.now.pool)) }
-    ensures kinds { IfErr result (λ e. (e ≡ Memory) ⊎ ((e ≡ InvalidInput)
+    ensures errors { IfErr result (λ e. (e ≡ Memory) ⊎ ((e ≡ InvalidInput)
         × (list_all (λ s. nat_lt (length s.0) length_limit) (stored_of pool.now.pool) ≡ false))) }
 {
     let width_bit = if pool.long_string_refs() {
@@ -54,9 +54,9 @@ fn write_place(
 ) -> Result<(), Error>
     ensures ok { OnOk result (bytes.new.items ≡ bytes.old.items
         ++ head_of (stored_place pool.now.pool.page
-        (record { text = (at_place pool.now.pool.places place).text; count = count }))) }
-    ensures kinds { IfErr result (λ e. (e ≡ Memory) ⊎ ((e ≡ InvalidInput) × (length_limit
-        ≤ length (encoded pool.now.pool.page (at_place pool.now.pool.places place).text)))) }
+        (record { text = (pool_entry_at pool.now.pool.places place).text; count = count }))) }
+    ensures errors { IfErr result (λ e. (e ≡ Memory) ⊎ ((e ≡ InvalidInput) × (length_limit
+        ≤ length (encoded pool.now.pool.page (pool_entry_at pool.now.pool.places place).text)))) }
 {
     let len = pool.codepage().encoded_len(pool.get(place));
     if LENGTH_LIMIT <= len {
@@ -101,7 +101,7 @@ pub fn are_texts_used(pool: &StringPool, uses: &[u16]) -> bool
 // Whether a place has a use, or no text.
 fn is_used(pool: &StringPool, place: StringRef, count: u16) -> bool
     ensures { result
-        ≡ (not (count == 0) || (length (at_place pool.now.pool.places place).text == 0)) }
+        ≡ (not (count == 0) || (length (pool_entry_at pool.now.pool.places place).text == 0)) }
 {
     count != 0 || pool.get(place).is_empty()
 }

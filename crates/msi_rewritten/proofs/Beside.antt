@@ -2,14 +2,14 @@
 use Rattle.std.proofs.Common.{◌≡◌, ℕ, Bool, true, false, cond, List, [], ◌∷◌, Some, None, refl, sym, ap, ◌∙◌}
 use Rattle.std.specs.Prelude.{filter, not}
 use Rattle.std.specs.Ordering.{is_eq, is_lt}
-use Rattle.cfb_tree.specs.Names.{Letters, key_cmp, name_cmp, name_key}
+use Rattle.cfb_tree.specs.Names.{CaseTable, key_cmp, name_cmp, name_key}
 use Rattle.cfb_tree.specs.Objects.{a_storage, a_stream, is_same_name, name_of, Object}
-use Rattle.msi_meaning.specs.Package.{at_name, is_stream}
-use Rattle.msi_meaning.specs.Streams.{stream_put}
-use Rattle.msi_meaning.proofs.Roots.{named}
-use Rattle.msi_meaning.proofs.StreamKeys.{key_by_same}
+use Rattle.msi_spec.specs.Package.{at_name, is_stream}
+use Rattle.msi_spec.specs.Streams.{stream_put}
+use Rattle.msi_spec.proofs.Roots.{named}
+use Rattle.msi_spec.proofs.StreamKeys.{key_by_same}
 
-module _ (letters : Letters) (name bytes : List ℕ) where
+module _ (letters : CaseTable) (name bytes : List ℕ) where
   module _ (other : List ℕ) (differs : is_same_name letters other name ≡ false) where
     -- an object of the name hasn't the other
     apart : (o : Object) → is_same_name letters name (name_of o) ≡ true → is_same_name letters other (name_of o) ≡ false

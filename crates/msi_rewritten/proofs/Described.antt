@@ -15,7 +15,7 @@ use Rattle.msi_tables.specs.Rows.{Row}
 use Rattle.msi_tables.specs.Schema.{are_keys, column_of_bits, column_read, columns_columns, columns_in, columns_name, columns_read, described, described_by, begins_with, is_filled, is_for, is_number, is_of_listed, is_schema, names_described, schema_of, tables_columns, tables_name}
 use Rattle.msi_tables.specs.Table.{are_distinct, row_data}
 use Rattle.msi_values.specs.Datum.{Datum, null, number, text, binary}
-use Rattle.msi_meaning.specs.Calls.{is_column_at}
+use Rattle.msi_spec.specs.Calls.{is_column_at}
 use Rattle.msi_schema.proofs.Beside.{moved}
 use Rattle.msi_schema.proofs.Schemas.{schemas_moved}
 use Rattle.msi_rewritten.specs.Rewriting.{DescribesAlike}

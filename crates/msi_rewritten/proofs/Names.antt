@@ -5,13 +5,13 @@ use Rattle.std.specs.List.{All, list_all, list_any}
 use Rattle.std.proofs.lemmas.Bool.{and_parts}
 use Rattle.std.proofs.lemmas.Bool.Decides.{nat_tests}
 use Rattle.std.proofs.lemmas.List.Elements.{All-head, All-tail}
-use Rattle.cfb_tree.specs.Names.{Letters}
+use Rattle.cfb_tree.specs.Names.{CaseTable}
 use Rattle.cfb_tree.specs.Objects.{a_storage, a_stream, is_same_name, name_of, Object}
 use Rattle.msi_texts.specs.Category.{begins_name, is_identifier, is_name_byte}
-use Rattle.msi_meaning.specs.Opening.{is_encoded, may_use}
-use Rattle.msi_meaning.specs.Package.{at_name, has_slash, is_stream, stream_name, summary_name}
-use Rattle.msi_meaning.proofs.EncodedKeys.{keys_tell, name_encoded, one_table}
-use Rattle.msi_meaning.proofs.StreamKeys.{key_by_same}
+use Rattle.msi_spec.specs.Opening.{is_encoded, keeps_encoded_names}
+use Rattle.msi_spec.specs.Package.{at_name, has_slash, is_stream, stream_name, summary_name}
+use Rattle.msi_spec.proofs.EncodedKeys.{keys_tell, name_encoded, one_table}
+use Rattle.msi_spec.proofs.StreamKeys.{key_by_same}
 
 -- ---- no slash stands in an identifier
 
@@ -39,7 +39,7 @@ abbrev first_of : List ℕ → ℕ
 first_of [] = 0
 first_of (c ∷ cs) = c
 
-module _ (letters : Letters) (usable : may_use letters ≡ true) where
+module _ (letters : CaseTable) (usable : keeps_encoded_names letters ≡ true) where
   pub encoded_apart : (one other : List ℕ) → list_all is_encoded one ≡ true → (one ≡ other → ⊥) → is_same_name letters one other ≡ false
   encoded_apart one other encoded differ = by (is_same_name letters one other) refl
     where
@@ -62,7 +62,7 @@ module _ (letters : Letters) (usable : may_use letters ≡ true) where
 
 -- ---- what stands at a name
 
-module _ (letters : Letters) (name : List ℕ) where
+module _ (letters : CaseTable) (name : List ℕ) where
   pub found_same : (os : List Object) (o : Object) → at_name letters os name ≡ Some o → is_same_name letters name (name_of o) ≡ true
   found_same [] o there = (let never : None ≡ Some o = there in absurd (cc))
   found_same (x ∷ os) o there = by (is_same_name letters name (name_of x)) refl (found_same os o)

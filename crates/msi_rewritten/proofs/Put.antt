@@ -3,7 +3,7 @@ use Rattle.std.proofs.Common.{◌≡◌, ◌∙◌, ℕ, ◌<◌, Bool, true, fa
 use Rattle.std.specs.Prelude.{◌&&◌, not, bytes_eq, chars, option_and_then, slice_get}
 use Rattle.std.proofs.lemmas.Bool.{and_parts}
 use Rattle.std.proofs.lemmas.Option.{get_or_from_slice_get, slice_get_within}
-use Rattle.cfb_tree.specs.Names.{Letters}
+use Rattle.cfb_tree.specs.Names.{CaseTable}
 use Rattle.cfb_tree.specs.Objects.{is_same_name}
 use Rattle.cfb_tree.specs.Tree.{Tree}
 use Rattle.msi_pool.specs.Pool.{Pool}
@@ -11,12 +11,12 @@ use Rattle.msi_props.specs.Props.{Props}
 use Rattle.msi_tables.specs.Table.{Table}
 use Rattle.msi_texts.specs.Category.{is_identifier}
 use Rattle.msi_texts.specs.StreamName.{is_valid_name}
-use Rattle.msi_meaning.specs.Opening.{may_use}
-use Rattle.msi_meaning.specs.Package.{data_name, has_slash, object_bytes, objects, pool_name, stream_at, stream_name, summary_name, table_stream, Packed}
-use Rattle.msi_meaning.specs.Sound.{is_free_table_name}
-use Rattle.msi_meaning.specs.SoundParts.{IsNamed}
-use Rattle.msi_meaning.specs.Split.{HasPool, HasSummary}
-use Rattle.msi_meaning.proofs.SystemRows.{bytes_same}
+use Rattle.msi_spec.specs.Opening.{keeps_encoded_names}
+use Rattle.msi_spec.specs.Package.{data_name, has_slash, object_bytes, objects, pool_name, stream_at, stream_name, summary_name, table_stream, PackageContent}
+use Rattle.msi_spec.specs.Sound.{is_free_table_name}
+use Rattle.msi_spec.specs.SoundParts.{HasSoundNames}
+use Rattle.msi_spec.specs.Split.{HasPool, HasSummary}
+use Rattle.msi_spec.proofs.SystemRows.{bytes_same}
 use Rattle.msi_rewritten.specs.Rewriting.{HasPut}
 use Rattle.msi_rewritten.proofs.Beside.{put_beside}
 use Rattle.msi_rewritten.proofs.Names.{summary_apart, tables_apart}
@@ -36,7 +36,7 @@ free_parts name e =
     let c = and_parts (is_identifier name) (is_valid_name true (chars name)) b.0 in
     (c.0, b.1, a.1)
 
-module _ (letters : Letters) (P : Packed) (usable : may_use letters ≡ true) (named : IsNamed letters P) (k : ℕ) (t : Table) (at : slice_get P.tables k ≡ Some t) where
+module _ (letters : CaseTable) (P : PackageContent) (usable : keeps_encoded_names letters ≡ true) (named : HasSoundNames letters P) (k : ℕ) (t : Table) (at : slice_get P.tables k ≡ Some t) where
   pub within_it : k < length P.tables
   within_it = slice_get_within P.tables k t at
 

@@ -6,7 +6,7 @@ use Rattle.std.specs.List.Sorted.{IsStrictlySortedBy}
 use Rattle.std.proofs.lemmas.Bool.{or_parts}
 use Rattle.std.proofs.lemmas.List.Elements.{All-map, All-head, All-tail}
 use Rattle.std.proofs.lemmas.Option.{get_or_from_slice_get}
-use Rattle.cfb_tree.specs.Names.{Letters}
+use Rattle.cfb_tree.specs.Names.{CaseTable}
 use Rattle.cfb_tree.specs.Objects.{a_storage, a_stream, is_same_name, name_of, Object}
 use Rattle.cfb_tree.specs.Tree.{Tree}
 use Rattle.msi_pool.specs.Pool.{Pool}
@@ -15,18 +15,18 @@ use Rattle.msi_tables.specs.Schema.{begins_with, columns_in, columns_name, is_sc
 use Rattle.msi_tables.specs.Table.{data_rows, row_data, table_named, Table}
 use Rattle.msi_texts.specs.Category.{is_identifier}
 use Rattle.msi_texts.specs.StreamName.{is_marked}
-use Rattle.msi_meaning.specs.Calls.{rows_put, with_rows}
-use Rattle.msi_meaning.specs.Opening.{may_use}
-use Rattle.msi_meaning.specs.Package.{at_name, data_name, table_name_cmp, is_own, is_stream, is_table_name, object_bytes, objects, pool_name, rows_named, stream_at, stream_name, summary_name, table_stream, Packed}
-use Rattle.msi_meaning.specs.Sound.{is_free_table_name}
-use Rattle.msi_meaning.specs.SoundParts.{IsNamed}
-use Rattle.msi_meaning.specs.Split.{Stores}
-use Rattle.msi_meaning.specs.Streams.{IsDropped}
-use Rattle.msi_meaning.proofs.EncodedKeys.{keys_tell, name_encoded}
-use Rattle.msi_meaning.proofs.Roots.{put_dropped, put_found}
-use Rattle.msi_meaning.proofs.StreamKeys.{key_by_same, same_by_key}
-use Rattle.msi_meaning.proofs.SystemRows.{same_bytes}
-use Rattle.msi_rewritten.specs.Rewriting.{rewritten, DescribesAlike, HasPut, IsRewriting}
+use Rattle.msi_spec.specs.Calls.{rows_put, with_rows}
+use Rattle.msi_spec.specs.Opening.{keeps_encoded_names}
+use Rattle.msi_spec.specs.Package.{at_name, data_name, table_name_cmp, is_own, is_stream, is_table_name, object_bytes, objects, pool_name, rows_named, stream_at, stream_name, summary_name, table_stream, PackageContent}
+use Rattle.msi_spec.specs.Sound.{is_free_table_name}
+use Rattle.msi_spec.specs.SoundParts.{HasSoundNames}
+use Rattle.msi_spec.specs.Split.{TreeStoresRest}
+use Rattle.msi_spec.specs.Streams.{IsDropped}
+use Rattle.msi_spec.proofs.EncodedKeys.{keys_tell, name_encoded}
+use Rattle.msi_spec.proofs.Roots.{put_dropped, put_found}
+use Rattle.msi_spec.proofs.StreamKeys.{key_by_same, same_by_key}
+use Rattle.msi_spec.proofs.SystemRows.{same_bytes}
+use Rattle.msi_rewritten.specs.Rewriting.{rewritten, DescribesAlike, HasPut, ReplacesTableRows}
 use Rattle.msi_rewritten.proofs.Beside.{put_keeps_storages}
 use Rattle.msi_rewritten.proofs.Counted.{data_stays}
 use Rattle.msi_rewritten.proofs.Names.{found_same, kept_has, no_slash, storage_listed, summary_apart, tables_apart}
@@ -61,13 +61,13 @@ found_at (t ∷ ts) m u is = by (bytes_eq t.name m) refl (found_at ts m u)
         let later = rest (rw e at is) in
         (suc later.0, (let below = later.1 in omega (arith, below)), later.2, later.3)
 
-pub own_listed : (letters : Letters) (x : List ℕ) (ts : List Table) (k : ℕ) (t : Table) → slice_get ts k ≡ Some t → is_same_name letters (stream_name t.name) x ≡ true
+pub own_listed : (letters : CaseTable) (x : List ℕ) (ts : List Table) (k : ℕ) (t : Table) → slice_get ts k ≡ Some t → is_same_name letters (stream_name t.name) x ≡ true
     → list_any (λ name. is_same_name letters name x) (map (λ t. stream_name t.name) ts) ≡ true
 own_listed letters x [] k t at same = absurd (cc)
 own_listed letters x (u ∷ us) zero t at same = (let one : u ≡ t = grind (arith, at) in ap (λ b. b || list_any (λ name. is_same_name letters name x) (map (λ t. stream_name t.name) us)) (ap (λ (v : Table). is_same_name letters (stream_name v.name) x) one ∙ same))
 own_listed letters x (u ∷ us) (suc k) t at same = or_right (is_same_name letters (stream_name u.name) x) _ (own_listed letters x us k t at same)
 
-pub none_listed : (letters : Letters) → may_use letters ≡ true → (m : List ℕ) → is_identifier m ≡ true → (ts : List Table) → All (λ t. IsTrue (is_free_table_name t.name)) ts → table_named ts m ≡ None
+pub none_listed : (letters : CaseTable) → keeps_encoded_names letters ≡ true → (m : List ℕ) → is_identifier m ≡ true → (ts : List Table) → All (λ t. IsTrue (is_free_table_name t.name)) ts → table_named ts m ≡ None
     → list_any (λ name. is_same_name letters name (stream_name m)) (map (λ t. stream_name t.name) ts) ≡ false
 none_listed letters usable m e [] free none = refl
 none_listed letters usable m e (t ∷ ts) free none = by (bytes_eq t.name m) refl (none_listed letters usable m e ts (All-tail (λ t. IsTrue (is_free_table_name t.name)) t ts free))
@@ -99,7 +99,7 @@ nothing_there : (long : Bool) → rows_of long (kinds_of validation_columns) [] 
 nothing_there true = refl
 nothing_there false = refl
 
-module _ (letters : Letters) (old new : Tree) (P : Packed) (usable : may_use letters ≡ true) (named : IsNamed letters P) (stores : Stores letters old P) where
+module _ (letters : CaseTable) (old new : Tree) (P : PackageContent) (usable : keeps_encoded_names letters ≡ true) (named : HasSoundNames letters P) (stores : TreeStoresRest letters old P) where
   abbrev keep : Object → Bool
   keep o = is_stream o && not (is_own letters P o)
 
@@ -124,8 +124,8 @@ module _ (letters : Letters) (old new : Tree) (P : Packed) (usable : may_use let
           let unmarked : not (is_marked n) ≡ true = kept_has letters (stream_name validation_name) (λ o. IsTrue (not (is_marked (name_of o)))) keep (objects old.content) (a_stream n s b) strays is kept in
           absurd (not_true (is_marked n) unmarked (subst (λ x. is_marked x ≡ true) one refl))
 
-  module _ (k : ℕ) (t : Table) (stored : List Row) (pool : Pool) (r : IsRewriting P k t stored pool) where
-    abbrev Q : Packed
+  module _ (k : ℕ) (t : Table) (stored : List Row) (pool : Pool) (r : ReplacesTableRows P k t stored pool) where
+    abbrev Q : PackageContent
     Q = rewritten P t.name stored pool
 
     identifier : is_identifier t.name ≡ true
@@ -336,7 +336,7 @@ module _ (letters : Letters) (old new : Tree) (P : Packed) (usable : may_use let
           ∙ sym (put_keeps_storages letters (stream_name t.name) bytes (objects old.content) free_of_storage)
           ∙ ap (filter (λ o. not (is_stream o))) (sym put.objects)
 
-      pub stores_after : Stores letters new Q
+      pub stores_after : TreeStoresRest letters new Q
       stores_after = record {
         class = ap (λ facts. facts.clsid) put.root ∙ stores.class;
         rising = subst (IsStrictlySortedBy table_name_cmp) (sym (names_kept t.name stored (λ n. n) P.tables)) stores.rising;
@@ -352,7 +352,7 @@ module _ (letters : Letters) (old new : Tree) (P : Packed) (usable : may_use let
 
     -- ---- names
 
-    pub named_after : IsNamed letters Q
+    pub named_after : HasSoundNames letters Q
     named_after = record {
       one_section = named.one_section;
       no_strays = named.no_strays;

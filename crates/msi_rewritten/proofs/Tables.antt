@@ -12,10 +12,10 @@ use Rattle.std.proofs.lemmas.Map.Keys.{sorted_head, sorted_tail}
 use Rattle.msi_changes.specs.Laws.{uses_in}
 use Rattle.msi_tables.specs.Rows.{Row}
 use Rattle.msi_tables.specs.Table.{table_named, Table}
-use Rattle.msi_meaning.specs.Calls.{rows_put, with_rows}
-use Rattle.msi_meaning.specs.Package.{table_name_cmp}
-use Rattle.msi_meaning.specs.Sound.{uses_of}
-use Rattle.msi_meaning.proofs.SystemRows.{bytes_same, same_bytes}
+use Rattle.msi_spec.specs.Calls.{rows_put, with_rows}
+use Rattle.msi_spec.specs.Package.{table_name_cmp}
+use Rattle.msi_spec.specs.Sound.{refcounts_of}
+use Rattle.msi_spec.proofs.SystemRows.{bytes_same, same_bytes}
 
 -- a name isn't before itself
 less_differs : (x y : List ℕ) → table_name_cmp x y ≡ Less → bytes_eq y x ≡ false
@@ -94,7 +94,7 @@ module _ (name : List ℕ) (stored : List Row) where
   named_at x (u ∷ us) (suc k) t above at = named_at x us k t above.1 at
 
   pub uses_after : (ts : List Table) (k : ℕ) (t : Table) → slice_get ts k ≡ Some t → t.name ≡ name → IsStrictlySortedBy table_name_cmp (map (λ t. t.name) ts)
-      → (n : ℕ) → uses_of (rows_put name stored ts) n ≡ uses_in stored n + uses_of (remove ts k) n
+      → (n : ℕ) → refcounts_of (rows_put name stored ts) n ≡ uses_in stored n + refcounts_of (remove ts k) n
   uses_after [] k t at own rising n = absurd (cc)
   uses_after (u ∷ us) zero t at own rising n =
       let same : u ≡ t = grind (arith, at) in
@@ -102,24 +102,24 @@ module _ (name : List ℕ) (stored : List Row) where
       let changed = one_changed u (subst (λ m. bytes_eq u.name m ≡ true) named (bytes_same u.name)) in
       let above : AllByRecursion (λ y. table_name_cmp u.name y ≡ Less) (map (λ t. t.name) us) = sorted_head table_name_cmp u.name (map (λ t. t.name) us) rising in
       let kept = later_kept us (subst (λ m. AllByRecursion (λ y. table_name_cmp m y ≡ Less) (map (λ t. t.name) us)) named above) in
-      ap₂ (λ (x : Table) (xs : List Table). uses_of (x ∷ xs) n) changed kept ∙ sum_by-cons (λ t. uses_in t.rows n) (record u { rows = stored }) us
+      ap₂ (λ (x : Table) (xs : List Table). refcounts_of (x ∷ xs) n) changed kept ∙ sum_by-cons (λ t. uses_in t.rows n) (record u { rows = stored }) us
   uses_after (u ∷ us) (suc k) t at own rising n =
       let above = sorted_head table_name_cmp u.name (map (λ t. t.name) us) rising in
       let less : table_name_cmp u.name name ≡ Less = subst (λ m. table_name_cmp u.name m ≡ Less) own (named_at u.name us k t above at) in
       let kept = other_kept u (more_differs u.name name less) in
       let rest = uses_after us k t at own (sorted_tail table_name_cmp u.name (map (λ t. t.name) us) rising) n in
-      let front : uses_of (rows_put name stored (u ∷ us)) n ≡ uses_in u.rows n + uses_of (rows_put name stored us) n =
-      ap (λ (x : Table). uses_of (x ∷ rows_put name stored us) n) kept ∙ sum_by-cons (λ t. uses_in t.rows n) u (rows_put name stored us) in
-      let behind : uses_of (remove (u ∷ us) (suc k)) n ≡ uses_in u.rows n + uses_of (remove us k) n = sum_by-cons (λ t. uses_in t.rows n) u (remove us k) in
+      let front : refcounts_of (rows_put name stored (u ∷ us)) n ≡ uses_in u.rows n + refcounts_of (rows_put name stored us) n =
+      ap (λ (x : Table). refcounts_of (x ∷ rows_put name stored us) n) kept ∙ sum_by-cons (λ t. uses_in t.rows n) u (rows_put name stored us) in
+      let behind : refcounts_of (remove (u ∷ us) (suc k)) n ≡ uses_in u.rows n + refcounts_of (remove us k) n = sum_by-cons (λ t. uses_in t.rows n) u (remove us k) in
       omega (arith, front, behind, rest)
 
 -- another table's uses are among those of all but the one
 pub others_have : (ts : List Table) (k : ℕ) (t : Table) → slice_get ts k ≡ Some t → IsStrictlySortedBy table_name_cmp (map (λ t. t.name) ts)
-    → (j : ℕ) (d : Table) → j < length ts → bytes_eq (get_or ts j d).name t.name ≡ false → (n : ℕ) → uses_in (get_or ts j d).rows n ≤ uses_of (remove ts k) n
+    → (j : ℕ) (d : Table) → j < length ts → bytes_eq (get_or ts j d).name t.name ≡ false → (n : ℕ) → uses_in (get_or ts j d).rows n ≤ refcounts_of (remove ts k) n
 others_have ts k t at rising j d within differs n =
     let all = uses_after t.name [] ts k t at refl rising n in
     let inside : j < length (rows_put t.name [] ts) = omega (arith, length-map ts (with_rows t.name []), within) in
-    let most : uses_in (get_or (rows_put t.name [] ts) j d).rows n ≤ uses_of (rows_put t.name [] ts) n = get_or-le-sum_by (λ u. uses_in u.rows n) (rows_put t.name [] ts) j d inside in
+    let most : uses_in (get_or (rows_put t.name [] ts) j d).rows n ≤ refcounts_of (rows_put t.name [] ts) n = get_or-le-sum_by (λ u. uses_in u.rows n) (rows_put t.name [] ts) j d inside in
     let here : get_or (rows_put t.name [] ts) j d ≡ get_or ts j d = get_or-map (with_rows t.name []) ts j d d within ∙ other_kept t.name [] (get_or ts j d) differs in
     let same : uses_in (get_or (rows_put t.name [] ts) j d).rows n ≡ uses_in (get_or ts j d).rows n = ap (λ (u : Table). uses_in u.rows n) here in
     let none : uses_in [] n ≡ 0 = refl in

@@ -6,14 +6,14 @@ use Rattle.std.proofs.lemmas.Bool.Decides.{nat_tests}
 use Rattle.std.proofs.lemmas.List.Elements.{All-cons, All-nil}
 use Rattle.std.proofs.lemmas.List.Sums.{sum_by-cons}
 use Rattle.msi_changes.specs.Laws.{names_place, uses_in}
-use Rattle.msi_pool.specs.Pool.{at_place, Pool}
+use Rattle.msi_pool.specs.Pool.{pool_entry_at, Pool}
 use Rattle.msi_pool.specs.declared.stringref.ValueRef.{ValueRef}
 use Rattle.msi_pool.specs.declared.stringref.ValueRef.TheVariants as cell
 use Rattle.msi_pool.specs.Refs.{value_at}
 use Rattle.msi_tables.specs.Rows.{Row}
 use Rattle.msi_tables.specs.Table.{row_data}
 use Rattle.msi_values.specs.Datum.{text}
-use Rattle.msi_meaning.specs.Sound.{IsUsed}
+use Rattle.msi_spec.specs.Sound.{IsPlaceUsed}
 
 abbrev use_of : ℕ → ValueRef → ℕ
 use_of n v = cond (names_place n v) 1 0
@@ -43,7 +43,7 @@ module _ (Holds : ℕ → Type 0) where
 
 module _ (old new : Pool) where
   abbrev Stays : ℕ → Type 0
-  Stays n = (at_place new.places n).text ≡ (at_place old.places n).text
+  Stays n = (pool_entry_at new.places n).text ≡ (pool_entry_at old.places n).text
 
   cell_stays : (v : ValueRef) → use_of 0 v ≡ 0 → ((n : ℕ) → 0 < n → 0 < use_of n v → Stays n) → value_at new v ≡ value_at old v
   cell_stays cell.Null none each = refl
@@ -67,22 +67,22 @@ module _ (old new : Pool) where
 
 module _ (pool : Pool) where
   abbrev Has : ℕ → Type 0
-  Has n = 0 < (at_place pool.places n).count
+  Has n = 0 < (pool_entry_at pool.places n).count
 
-  cell_used : (v : ValueRef) → use_of 0 v ≡ 0 → ((n : ℕ) → 0 < n → 0 < use_of n v → Has n) → IsUsed pool v
+  cell_used : (v : ValueRef) → use_of 0 v ≡ 0 → ((n : ℕ) → 0 < n → 0 < use_of n v → Has n) → IsPlaceUsed pool v
   cell_used cell.Null none each = tt
   cell_used (cell.Int z) none each = tt
   cell_used (cell.Str m) none each = placed Has m none each
   cell_used cell.Binary none each = tt
 
-  row_used : (row : Row) → row_uses 0 row ≡ 0 → ((n : ℕ) → 0 < n → 0 < row_uses n row → Has n) → All (IsUsed pool) row
-  row_used [] none each = All-nil (IsUsed pool)
+  row_used : (row : Row) → row_uses 0 row ≡ 0 → ((n : ℕ) → 0 < n → 0 < row_uses n row → Has n) → All (IsPlaceUsed pool) row
+  row_used [] none each = All-nil (IsPlaceUsed pool)
   row_used (v ∷ vs) none each =
       let sum = sum_by-cons (use_of 0) v vs in
-      All-cons (IsUsed pool) v vs (cell_used v (omega (arith, sum, none)) (at_first Has v vs each)) (row_used vs (omega (arith, sum, none)) (at_rest Has v vs each))
+      All-cons (IsPlaceUsed pool) v vs (cell_used v (omega (arith, sum, none)) (at_first Has v vs each)) (row_used vs (omega (arith, sum, none)) (at_rest Has v vs each))
 
-  pub rows_used : (rows : List Row) → uses_in rows 0 ≡ 0 → ((n : ℕ) → 0 < n → 0 < uses_in rows n → Has n) → All (All (IsUsed pool)) rows
-  rows_used [] none each = All-nil (All (IsUsed pool))
+  pub rows_used : (rows : List Row) → uses_in rows 0 ≡ 0 → ((n : ℕ) → 0 < n → 0 < uses_in rows n → Has n) → All (All (IsPlaceUsed pool)) rows
+  rows_used [] none each = All-nil (All (IsPlaceUsed pool))
   rows_used (row ∷ rows) none each =
       let sum = sum_by-cons (row_uses 0) row rows in
-      All-cons (All (IsUsed pool)) row rows (row_used row (omega (arith, sum, none)) (first_row Has row rows each)) (rows_used rows (omega (arith, sum, none)) (rest_rows Has row rows each))
+      All-cons (All (IsPlaceUsed pool)) row rows (row_used row (omega (arith, sum, none)) (first_row Has row rows each)) (rows_used rows (omega (arith, sum, none)) (rest_rows Has row rows each))

@@ -23,14 +23,14 @@ use Rattle.msi_columns.specs.Held.{columns_of}
 use Rattle.msi_columns.specs.declared.column.Column.{Column as HeldColumn}
 use Rattle.msi_tables.specs.Table.{Heading}
 use Rattle.msi_tables.specs.Schema.{begins_with, columns_columns, columns_in, columns_name, schema_of, tables_columns, tables_name}
-use Rattle.msi_schema.specs.Headings.{at_text, is_named, AreFound, AreTold, Described}
+use Rattle.msi_schema.specs.Headings.{at_text, is_named, AreColumnsOfTables, AreTold, Described}
 
 -- ---- one name more
 
 pub found_put : (asked asked' : List ℕ → Bool) (columns columns' : List ℕ → Option (List Column)) (old new : Described) (t : List ℕ) (cs : Vec HeldColumn Global)
-    → AreFound asked columns old → ((name : List ℕ) → at_text new name ≡ cond (bytes_eq t name) (Some cs) (at_text old name))
+    → AreColumnsOfTables asked columns old → ((name : List ℕ) → at_text new name ≡ cond (bytes_eq t name) (Some cs) (at_text old name))
     → ((name : List ℕ) → asked' name ≡ (asked name || bytes_eq t name)) → columns' t ≡ Some (columns_of cs.items)
-    → ((name : List ℕ) → bytes_eq t name ≡ false → columns' name ≡ columns name) → AreFound asked' columns' new
+    → ((name : List ℕ) → bytes_eq t name ≡ false → columns' name ≡ columns name) → AreColumnsOfTables asked' columns' new
 found_put asked asked' columns columns' old new t cs found put also here others = record {
   there = λ name. ap is_some (put name) ∙ is_there name (bytes_eq t name) ∙ sym (also name);
   told = λ name. subst (λ (o : Option (Vec HeldColumn Global)). IfSome o (λ cs. columns' name ≡ Some (columns_of cs.items))) (sym (put name)) (is_told name (bytes_eq t name) refl);
@@ -55,7 +55,7 @@ found_put asked asked' columns columns' old new t cs found put also here others 
 
 -- a name that is there already asks for nothing more
 pub found_still : (asked asked' : List ℕ → Bool) (columns : List ℕ → Option (List Column)) (found : Described) (t : List ℕ)
-    → AreFound asked columns found → is_some (at_text found t) ≡ true → ((name : List ℕ) → asked' name ≡ (asked name || bytes_eq t name)) → AreFound asked' columns found
+    → AreColumnsOfTables asked columns found → is_some (at_text found t) ≡ true → ((name : List ℕ) → asked' name ≡ (asked name || bytes_eq t name)) → AreColumnsOfTables asked' columns found
 found_still asked asked' columns found t are here also = record { there = λ name. on name (bytes_eq t name) refl ∙ sym (also name); told = are.told }
   where
     on : (name : List ℕ) (b : Bool) → bytes_eq t name ≡ b → is_some (at_text found name) ≡ (asked name || b)
@@ -70,7 +70,7 @@ found_still asked asked' columns found t are here also = record { there = λ nam
 
 -- its columns are described
 pub still_described : (asked : List ℕ → Bool) (columns : List ℕ → Option (List Column)) (found : Described) (t : List ℕ)
-    → AreFound asked columns found → is_some (at_text found t) ≡ true → is_some (columns t) ≡ true
+    → AreColumnsOfTables asked columns found → is_some (at_text found t) ≡ true → is_some (columns t) ≡ true
 still_described asked columns found t are here = on (at_text found t) here (are.told t)
   where
     on : (o : Option (Vec HeldColumn Global)) → is_some o ≡ true → IfSome o (λ cs. columns t ≡ Some (columns_of cs.items)) → is_some (columns t) ≡ true
@@ -83,19 +83,19 @@ flip : (x y : List ℕ) → bytes_eq x y ≡ bytes_eq y x
 flip = nat_list_eq_equiv.symm
 
 module _ (tables rows others : List (List Datum)) (found all more : Described) (first second : Vec HeldColumn Global)
-    (are : AreFound (λ name. list_any (begins_with name) tables) (schema_of rows others) found)
+    (are : AreColumnsOfTables (λ name. list_any (begins_with name) tables) (schema_of rows others) found)
     (one : (name : List ℕ) → at_text more name ≡ cond (bytes_eq columns_name name) (Some first) (at_text found name)) (is_one : columns_of first.items ≡ columns_columns)
     (two : (name : List ℕ) → at_text all name ≡ cond (bytes_eq tables_name name) (Some second) (at_text more name)) (is_two : columns_of second.items ≡ tables_columns) where
   abbrev columns_one : List ℕ → Option (List Column)
   columns_one name = cond (bytes_eq name columns_name) (Some columns_columns) (schema_of rows others name)
 
-  with_one : AreFound (λ name. list_any (begins_with name) tables || bytes_eq columns_name name) columns_one more
+  with_one : AreColumnsOfTables (λ name. list_any (begins_with name) tables || bytes_eq columns_name name) columns_one more
   with_one =
       found_put (λ name. list_any (begins_with name) tables) (λ name. list_any (begins_with name) tables || bytes_eq columns_name name) (schema_of rows others) columns_one found more columns_name first are one
       (λ name. refl) (ap (λ cs. Some cs) (sym is_one))
       (λ name e. ap (λ b. cond b (Some columns_columns) (schema_of rows others name)) (flip name columns_name ∙ e))
 
-  pub with_both : AreFound (is_named tables) (columns_in rows others) all
+  pub with_both : AreColumnsOfTables (is_named tables) (columns_in rows others) all
   with_both =
       found_put (λ name. list_any (begins_with name) tables || bytes_eq columns_name name) (is_named tables) columns_one (columns_in rows others) more all tables_name second with_one two
       (λ name. ap₂ (λ a b. (a || b) || list_any (begins_with name) tables) (flip name tables_name) (flip name columns_name)
@@ -152,7 +152,7 @@ any_name name (e ∷ es) =
 
 module _ (tables rows others : List (List Datum)) (long : Bool) (found : Described) (headings : List Heading)
     (sorted : IsStrictlySortedBy (λ (x y : Bor (List ℕ)). slice_cmp nat_cmp x.now y.now) (map (λ kept. kept.0) found.entries))
-    (are : AreFound (is_named tables) (columns_in rows others) found) (is : headings ≡ map (as_heading long) found.entries) where
+    (are : AreColumnsOfTables (is_named tables) (columns_in rows others) found) (is : headings ≡ map (as_heading long) found.entries) where
   abbrev names : List (List ℕ)
   names = map (λ (key : Bor (List ℕ)). key.now) (map (λ (kept : Kept). kept.0) found.entries)
 

@@ -13,7 +13,7 @@ use Rattle.cfb_medium.specs.declared.error.Error.{Error}
 use Rattle.cfb_medium.specs.declared.error.Error.TheVariants.{InvalidData}
 use Rattle.std.specs.Int.{w32, cast_unsigned}
 use Rattle.std.proofs.lemmas.Slice.Eq.{bytes_eq-Decides}
-use Rattle.msi_texts.specs.Results.{Answers, or_refused}
+use Rattle.msi_texts.specs.Results.{ReturnsOrOutOfMemory, or_refused}
 use Rattle.msi_columns.specs.Held.{column_of, columns_of}
 use Rattle.std.specs.declared.alloc.Global.{Global}
 use Rattle.msi_columns.specs.declared.column.Column.{Column as HeldColumn}
@@ -185,8 +185,8 @@ module _ (rows others : List (List Datum)) (t : List ℕ) (n : ℕ) where
         first false b e = e
 
 -- what answers one definition answers another that is the same
-pub answers_so : (r : Result HeldColumn Error) (e f : Result Column Error) → e ≡ f → Answers column_of r f → Answers column_of r e
-answers_so r e f same told = subst (Answers column_of r) (sym same) told
+pub answers_so : (r : Result HeldColumn Error) (e f : Result Column Error) → e ≡ f → ReturnsOrOutOfMemory column_of r f → ReturnsOrOutOfMemory column_of r e
+answers_so r e f same told = subst (ReturnsOrOutOfMemory column_of r) (sym same) told
 
 -- ---- columns one after the other
 
@@ -242,5 +242,5 @@ module _ (others own : List (List Datum)) where
   pub all_read : (done : List Column) (n : ℕ) (all : Option (List Column)) → rest_of done 0 n ≡ all → or_refused all InvalidData ≡ Ok done
   all_read done n all is = ap (λ o. or_refused o InvalidData) (sym is) ∙ ap (λ cs. Ok cs) (append-nil done)
 
-pub all_answers_so : (r : Result (Vec HeldColumn Global) Error) (e f : Result (List Column) Error) → e ≡ f → Answers (λ cs. columns_of cs.items) r f → Answers (λ cs. columns_of cs.items) r e
-all_answers_so r e f same told = subst (Answers (λ (cs : Vec HeldColumn Global). columns_of cs.items) r) (sym same) told
+pub all_answers_so : (r : Result (Vec HeldColumn Global) Error) (e f : Result (List Column) Error) → e ≡ f → ReturnsOrOutOfMemory (λ cs. columns_of cs.items) r f → ReturnsOrOutOfMemory (λ cs. columns_of cs.items) r e
+all_answers_so r e f same told = subst (ReturnsOrOutOfMemory (λ (cs : Vec HeldColumn Global). columns_of cs.items) r) (sym same) told

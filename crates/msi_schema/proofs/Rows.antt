@@ -6,7 +6,7 @@ use Rattle.std.specs.Int.{w32, cast_unsigned}
 use Rattle.std.specs.List.{slice_split}
 use Rattle.cfb_medium.specs.declared.error.Error.{Error}
 use Rattle.cfb_medium.specs.declared.error.Error.TheVariants.{InvalidData}
-use Rattle.msi_texts.specs.Results.{Answers, or_refused}
+use Rattle.msi_texts.specs.Results.{ReturnsOrOutOfMemory, or_refused}
 use Rattle.msi_columns.specs.Held.{column_of}
 use Rattle.msi_columns.specs.declared.column.Column.{Column as HeldColumn}
 use Rattle.msi_texts.specs.Category.{category_named}
@@ -184,7 +184,7 @@ all_parts ds is answer some name kind low high table n category choices l h t m 
 -- ---- answers
 
 -- a column with its bits answers what the rows say
-pub bits_answer : (r : Result HeldColumn Error) (o : Option Column) → MatchResult r (λ column. o ≡ Some (column_of column)) (λ e. (e ≡ InvalidData) × (o ≡ None)) → Answers column_of r (or_refused o InvalidData)
+pub bits_answer : (r : Result HeldColumn Error) (o : Option Column) → MatchResult r (λ column. o ≡ Some (column_of column)) (λ e. (e ≡ InvalidData) × (o ≡ None)) → ReturnsOrOutOfMemory column_of r (or_refused o InvalidData)
 bits_answer (Ok column) o h = ap (λ x. or_refused x InvalidData) h
 bits_answer (Err e) o h = inr (ap (λ x. or_refused x InvalidData) h.1 ∙ ap (λ x. Err x) (sym h.0))
 

@@ -55,6 +55,6 @@ abbrev pub Described : Type 0
 Described = BTreeMap (Bor (List ℕ)) (Vec HeldColumn Global) Global
 
 -- for each name that is asked for, the columns of its table
-pub record AreFound (asked : List ℕ → Bool) (columns : List ℕ → Option (List Column)) (found : Described) : Type 0 where
+pub record AreColumnsOfTables (asked : List ℕ → Bool) (columns : List ℕ → Option (List Column)) (found : Described) : Type 0 where
   pub there : (name : List ℕ) → is_some (at_text found name) ≡ asked name
   pub told : (name : List ℕ) → IfSome (at_text found name) (λ cs. columns name ≡ Some (columns_of cs.items))

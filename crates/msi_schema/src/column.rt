@@ -1,11 +1,11 @@
 //! A column from the rows that describe it.
 ghost use Rattle.std.specs.Prelude.{◌≡◌, ◌⊎◌, ◌==◌, ℕ, None, Some, IfErr, IfOk, map, option_and_then, option_map};
 ghost use Rattle.cfb_medium.specs.declared.error.Error.TheVariants.{InvalidData, Memory};
-ghost use Rattle.msi_texts.specs.Results.{Answers, or_refused};
+ghost use Rattle.msi_texts.specs.Results.{ReturnsOrOutOfMemory, or_refused};
 ghost use Rattle.msi_values.specs.Borrowed.{borrowed_data, borrowed_datum};
 ghost use Rattle.msi_columns.specs.Column.{with_bits};
 ghost use Rattle.msi_columns.specs.Column.{Column as ColumnSaid};
-ghost use Rattle.msi_columns.specs.Held.{built, column_of, Builds};
+ghost use Rattle.msi_columns.specs.Held.{built, column_of, BuildsColumn};
 ghost use Rattle.msi_columns.specs.declared.column.ColumnType.{ColumnType};
 ghost use Rattle.std.specs.List.{slice_split};
 ghost use Rattle.msi_tables.specs.Schema.{column_of_bits, described};
@@ -26,7 +26,7 @@ pub fn column_from_rows(
     row: &[BorrowedValue<'_>],
     validation: Option<&[BorrowedValue<'_>]>,
 ) -> Result<Column, Error>
-    ensures { Answers column_of result (or_refused
+    ensures { ReturnsOrOutOfMemory column_of result (or_refused
         (column_by (option_map (λ row. borrowed_data row.now) validation.entry)
         (borrowed_data row.now)) InvalidData) }
 {
@@ -68,7 +68,7 @@ fn described_column(
     ensures ok { IfOk result (λ builder. (kind : ColumnType) (bits : ℕ)
         → option_and_then (described (borrowed_data row.now)) (column_of_bits name.now bits)
         ≡ with_bits bits (built builder kind)) }
-    ensures err { IfErr result (λ e. (e ≡ Memory)
+    ensures errors { IfErr result (λ e. (e ≡ Memory)
         ⊎ ((e ≡ InvalidData) × ((c : ColumnSaid) → described (borrowed_data row.now) c ≡ None))) }
 {
     if row.len() != 10 {
@@ -94,7 +94,7 @@ fn described_column(
 
 // The column takes null where the answer is Y.
 fn with_answer(builder: ColumnBuilder, answer: &str) -> ColumnBuilder
-    ensures { Builds result (with_answer answer.now) builder }
+    ensures { BuildsColumn result (with_answer answer.now) builder }
 {
     if answer == "Y" {
         builder.nullable()
@@ -109,7 +109,7 @@ fn with_range(
     low: BorrowedValue<'_>,
     high: BorrowedValue<'_>,
 ) -> ColumnBuilder
-    ensures { Builds result
+    ensures { BuildsColumn result
         (with_range (borrowed_datum low.entry) (borrowed_datum high.entry)) builder }
 {
     match (low, high) {
@@ -125,9 +125,9 @@ fn with_foreign(
     table: BorrowedValue<'_>,
     number: BorrowedValue<'_>,
 ) -> Result<ColumnBuilder, Error>
-    ensures ok { IfOk result (λ builder_after. Builds builder_after
+    ensures ok { IfOk result (λ builder_after. BuildsColumn builder_after
         (with_foreign (borrowed_datum table.entry) (borrowed_datum number.entry)) builder) }
-    ensures err { IfErr result (λ e. e ≡ Memory) }
+    ensures errors { IfErr result (λ e. e ≡ Memory) }
 {
     match (table, number) {
         (BorrowedValue::Str(table), BorrowedValue::Int(number)) => builder.foreign_key(
@@ -139,7 +139,7 @@ fn with_foreign(
 
 // The column has the category of a name; an unknown name says nothing.
 fn with_category(builder: ColumnBuilder, name: BorrowedValue<'_>) -> ColumnBuilder
-    ensures { Builds result (with_category (borrowed_datum name.entry)) builder }
+    ensures { BuildsColumn result (with_category (borrowed_datum name.entry)) builder }
 {
     let Some(name) = text_of(name) else {
         return builder;
@@ -156,9 +156,9 @@ fn with_choices(
     builder: ColumnBuilder,
     choices: BorrowedValue<'_>,
 ) -> Result<ColumnBuilder, Error>
-    ensures ok { IfOk result (λ builder_after. Builds builder_after
+    ensures ok { IfOk result (λ builder_after. BuildsColumn builder_after
         (with_choices (borrowed_datum choices.entry)) builder) }
-    ensures err { IfErr result (λ e. e ≡ Memory) }
+    ensures errors { IfErr result (λ e. e ≡ Memory) }
 {
     let Some(choices) = text_of(choices) else {
         return Ok(builder);

@@ -25,7 +25,7 @@ pub(crate) fn row_counts<'a>(
         × ColumnsAreCounted (rows_said tables.now) (rows_said columns.now) counts) }
     ensures few { IfOk result (λ counts.
         (name : List ℕ) → IfSome (at_text counts name) (λ n. n ≤ 65536)) }
-    ensures err { IfErr result (λ e. (e ≡ Memory) ⊎ ((e ≡ InvalidData)
+    ensures errors { IfErr result (λ e. (e ≡ Memory) ⊎ ((e ≡ InvalidData)
         × ((list_all has_name (rows_said tables.now)
         && list_all (is_of_listed (rows_said tables.now)) (rows_said columns.now)) ≡ false))) }
 {
@@ -48,7 +48,7 @@ fn names_of<'a>(
     tables: &[Vec<BorrowedValue<'a>>],
 ) -> Result<BTreeMap<&'a str, usize>, Error>
     ensures ok { IfOk result (λ names. ColumnsAreCounted (rows_said tables.now) [] names) }
-    ensures err { IfErr result (λ e. (e ≡ Memory)
+    ensures errors { IfErr result (λ e. (e ≡ Memory)
         ⊎ ((e ≡ InvalidData) × (list_all has_name (rows_said tables.now) ≡ false))) }
 {
     let mut names = BTreeMap::new(alloc);

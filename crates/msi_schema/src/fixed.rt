@@ -15,7 +15,7 @@ use std::alloc::Global;
 /// The one column of _Tables. The one error is Memory.
 pub fn tables_columns(alloc: Global) -> Result<Vec<Column>, Error>
     ensures ok { IfOk result (λ columns. columns_of columns.items ≡ tables_columns) }
-    ensures err { IfErr result (λ e. e ≡ Memory) }
+    ensures errors { IfErr result (λ e. e ≡ Memory) }
 {
     let name = Column::build(alloc, "Name")?.primary_key().string(64);
     let columns = vec![in alloc; name]?;
@@ -25,7 +25,7 @@ pub fn tables_columns(alloc: Global) -> Result<Vec<Column>, Error>
 /// The four columns of _Columns. The one error is Memory.
 pub fn columns_columns(alloc: Global) -> Result<Vec<Column>, Error>
     ensures ok { IfOk result (λ columns. columns_of columns.items ≡ columns_columns) }
-    ensures err { IfErr result (λ e. e ≡ Memory) }
+    ensures errors { IfErr result (λ e. e ≡ Memory) }
 {
     let table = Column::build(alloc, "Table")?.primary_key().string(64);
     let number = Column::build(alloc, "Number")?.primary_key().int16();
@@ -38,7 +38,7 @@ pub fn columns_columns(alloc: Global) -> Result<Vec<Column>, Error>
 /// The ten columns by which _Validation is read. The one error is Memory.
 pub fn validation_columns(alloc: Global) -> Result<Vec<Column>, Error>
     ensures ok { IfOk result (λ columns. columns_of columns.items ≡ validation_columns) }
-    ensures err { IfErr result (λ e. e ≡ Memory) }
+    ensures errors { IfErr result (λ e. e ≡ Memory) }
 {
     let table = Column::build(alloc, "Table")?.primary_key().id_string(32);
     let column = Column::build(alloc, "Column")?.primary_key().id_string(32);
@@ -76,7 +76,7 @@ pub fn validation_columns(alloc: Global) -> Result<Vec<Column>, Error>
 fn any_number(alloc: Global, name: &str) -> Result<Column, Error>
     ensures ok { IfOk result (λ column. column_of column
         ≡ any_number (plain name.now kind.Int32)) }
-    ensures err { IfErr result (λ e. e ≡ Memory) }
+    ensures errors { IfErr result (λ e. e ≡ Memory) }
 {
     let builder = Column::build(alloc, name)?;
     Ok(builder.nullable().range(-0x7fff_ffff, 0x7fff_ffff).int32())
@@ -86,7 +86,7 @@ fn any_number(alloc: Global, name: &str) -> Result<Column, Error>
 fn category_column(alloc: Global) -> Result<Column, Error>
     ensures ok { IfOk result (λ column. column_of column ≡ but_null
         (one_of (map name_of all_categories) (plain (codes "Category") (kind.Str 32)))) }
-    ensures err { IfErr result (λ e. e ≡ Memory) }
+    ensures errors { IfErr result (λ e. e ≡ Memory) }
 {
     let names = category_names(alloc)?;
     let builder = Column::build(alloc, "Category")?;
@@ -98,7 +98,7 @@ fn category_column(alloc: Global) -> Result<Column, Error>
 fn category_names(alloc: Global) -> Result<Vec<&'static str>, Error>
     ensures ok { IfOk result (λ names. map (λ name. name.now) names.items
         ≡ map name_of all_categories) }
-    ensures err { IfErr result (λ e. e ≡ Memory) }
+    ensures errors { IfErr result (λ e. e ≡ Memory) }
 {
     let categories = Category::all();
     let mut names = Vec::new(alloc);

@@ -2,12 +2,12 @@
 ghost use Rattle.std.specs.Prelude.{◌≡◌, ◌<◌, ◌≤◌, ◌⊎◌, List, IfErr, IfOk, IfSome, ℕ, Some, false, filter, length, true};
 ghost use Rattle.std.specs.List.{list_all, list_any};
 ghost use Rattle.cfb_medium.specs.declared.error.Error.TheVariants.{InvalidData, Memory};
-ghost use Rattle.msi_texts.specs.Results.{Answers, or_refused};
+ghost use Rattle.msi_texts.specs.Results.{ReturnsOrOutOfMemory, or_refused};
 ghost use Rattle.msi_values.specs.Datum.{Datum};
 ghost use Rattle.msi_columns.specs.Held.{columns_of};
 ghost use Rattle.msi_tables.specs.Schema.{begins_with, columns_in, names_described, schema_of};
 ghost use Rattle.msi_schema.specs.Index.{IsIndex, rows_said};
-ghost use Rattle.msi_schema.specs.Headings.{at_text, is_named, ColumnsAreCounted, AreFound};
+ghost use Rattle.msi_schema.specs.Headings.{at_text, is_named, ColumnsAreCounted, AreColumnsOfTables};
 
 use crate::cells::{text_of, value_at};
 use crate::fixed::{columns_columns, tables_columns};
@@ -32,9 +32,9 @@ pub(crate) fn described_tables<'m, 'a>(
         → IsIndex 2 others validation.now → ColumnsAreCounted (rows_said tables.now) rows counts.now
         → IfOk result
         (λ found. (list_all (names_described rows others) (rows_said tables.now) ≡ true)
-        × AreFound (λ name. list_any (begins_with name) (rows_said tables.now))
+        × AreColumnsOfTables (λ name. list_any (begins_with name) (rows_said tables.now))
         (schema_of rows others) found) }
-    ensures err { (rows others : List (List Datum)) → IsIndex 2 rows columns.now
+    ensures errors { (rows others : List (List Datum)) → IsIndex 2 rows columns.now
         → IsIndex 2 others validation.now → ColumnsAreCounted (rows_said tables.now) rows counts.now
         → IfErr result (λ e. (e ≡ Memory) ⊎ ((e ≡ InvalidData)
         × (list_all (names_described rows others) (rows_said tables.now) ≡ false))) }
@@ -65,7 +65,7 @@ fn columns_counted<'m, 'a>(
     ensures { (rows others : List (List Datum)) → IsIndex 2 rows columns.now
         → IsIndex 2 others validation.now
         → at_text counts.now name.now ≡ Some (length (filter (begins_with name.now) rows))
-        → Answers (λ cs. columns_of cs.items) result
+        → ReturnsOrOutOfMemory (λ cs. columns_of cs.items) result
         (or_refused (schema_of rows others name.now) InvalidData) }
 {
     let Some(count) = counts.get(&name).copied() else {
@@ -83,9 +83,10 @@ pub(crate) fn with_fixed<'a>(
     found: BTreeMap<&'a str, Vec<Column>>,
 ) -> Result<BTreeMap<&'a str, Vec<Column>>, Error>
     ensures ok { (tables rows others : List (List Datum))
-        → AreFound (λ name. list_any (begins_with name) tables) (schema_of rows others) found.entry
-        → IfOk result (λ all. AreFound (is_named tables) (columns_in rows others) all) }
-    ensures err { IfErr result (λ e. e ≡ Memory) }
+        → AreColumnsOfTables (λ name. list_any (begins_with name) tables)
+        (schema_of rows others) found.entry
+        → IfOk result (λ all. AreColumnsOfTables (is_named tables) (columns_in rows others) all) }
+    ensures errors { IfErr result (λ e. e ≡ Memory) }
 {
     let mut all = found;
     all.insert("_Columns", columns_columns(alloc)?)?;

@@ -20,7 +20,7 @@ pub fn rows_by_key<'m, 'a>(
         (are_distinct (map (take width) (rows_said rows.now)) ≡ false)
         (λ index. (are_distinct (map (take width) (rows_said rows.now)) ≡ true)
         × IsIndex width (rows_said rows.now) index)) }
-    ensures err { IfErr result (λ e. e ≡ Memory) }
+    ensures errors { IfErr result (λ e. e ≡ Memory) }
 {
     let mut index = BTreeMap::new(alloc);
     for row in rows {
@@ -41,7 +41,7 @@ fn key_of<'a>(
 ) -> Result<Vec<BorrowedValue<'a>>, Error>
     ensures ok { IfOk result (λ key. borrowed_data key.items
         ≡ take width (borrowed_data row.now)) }
-    ensures err { IfErr result (λ e. e ≡ Memory) }
+    ensures errors { IfErr result (λ e. e ≡ Memory) }
 {
     if row.len() <= width {
         let all = copy_of_values(alloc, row)?;
@@ -57,7 +57,7 @@ fn copy_of_values<'a>(
     row: &[BorrowedValue<'a>],
 ) -> Result<Vec<BorrowedValue<'a>>, Error>
     ensures ok { IfOk result (λ values. borrowed_data values.items ≡ borrowed_data row.now) }
-    ensures err { IfErr result (λ e. e ≡ Memory) }
+    ensures errors { IfErr result (λ e. e ≡ Memory) }
 {
     let mut values = Vec::new(alloc);
     for value in row {

@@ -30,7 +30,7 @@ pub(crate) fn rows_by_keys<'m, 'a>(
 ) -> Result<BTreeMap<Vec<BorrowedValue<'a>>, &'m [BorrowedValue<'a>]>, Error>
     ensures ok { IfOk result (λ index. (are_keys (map (take width) (rows_said rows.now)) ≡ true)
         × IsIndex width (rows_said rows.now) index) }
-    ensures err { IfErr result (λ e. (e ≡ Memory)
+    ensures errors { IfErr result (λ e. (e ≡ Memory)
         ⊎ ((e ≡ InvalidData) × (are_keys (map (take width) (rows_said rows.now)) ≡ false))) }
 {
     if !are_filled(rows, width) {

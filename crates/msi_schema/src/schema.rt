@@ -44,7 +44,7 @@ pub fn schema_tables(
         (map (row_data pool.now.pool) (rows_held columns.now))
         (map (row_data pool.now.pool) (rows_held validation.now))
         pool.now.pool.long (headings_in found.items)) }
-    ensures err { IfErr result (λ e. (e ≡ Memory) ⊎ ((e ≡ InvalidData) × (is_schema
+    ensures errors { IfErr result (λ e. (e ≡ Memory) ⊎ ((e ≡ InvalidData) × (is_schema
         (map (row_data pool.now.pool) (rows_held tables.now))
         (map (row_data pool.now.pool) (rows_held columns.now))
         (map (row_data pool.now.pool) (rows_held validation.now)) ≡ false))) }
@@ -73,7 +73,7 @@ fn tables_of_values<'a>(
     ensures ok { IfOk result (λ found. (is_schema (rows_said tables.now) (rows_said columns.now)
         (rows_said validation.now) ≡ true) × AreTold (rows_said tables.now)
         (rows_said columns.now) (rows_said validation.now) long (headings_in found.items)) }
-    ensures err { IfErr result (λ e. (e ≡ Memory) ⊎ ((e ≡ InvalidData)
+    ensures errors { IfErr result (λ e. (e ≡ Memory) ⊎ ((e ≡ InvalidData)
         × (is_schema (rows_said tables.now) (rows_said columns.now) (rows_said validation.now)
         ≡ false))) }
 {
@@ -100,7 +100,7 @@ fn tables_of(
         found.entry.entries) }
     ensures ordered { IfOk result (λ tables. IsStrictlySortedBy
         (λ x y. slice_cmp nat_cmp x.now y.now) (map (λ kept. kept.0) found.entry.entries)) }
-    ensures err { IfErr result (λ e. e ≡ Memory) }
+    ensures errors { IfErr result (λ e. e ≡ Memory) }
 {
     let mut tables = Vec::with_capacity(alloc, found.len())?;
     let mut left = found;

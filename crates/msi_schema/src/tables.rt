@@ -1,7 +1,7 @@
 //! The columns of a table, found by their numbers.
 ghost use Rattle.std.specs.Prelude.{◌≡◌, ◌+◌, ◌<◌, ◌≤◌, ◌^◌, ◌∷◌, [], IfErr, IfOk, List, filter, find, option_and_then, pos};
 ghost use Rattle.cfb_medium.specs.declared.error.Error.TheVariants.{InvalidData, Memory};
-ghost use Rattle.msi_texts.specs.Results.{Answers, or_refused};
+ghost use Rattle.msi_texts.specs.Results.{ReturnsOrOutOfMemory, or_refused};
 ghost use Rattle.msi_values.specs.Borrowed.{borrowed_data};
 ghost use Rattle.msi_values.specs.Datum.{number, text, Datum};
 ghost use Rattle.msi_columns.specs.Held.{column_of, columns_of};
@@ -27,7 +27,7 @@ pub fn columns_of_table<'m, 'a>(
 ) -> Result<Vec<Column>, Error>
     requires { count ≤ 65536 }
     ensures { (rows others : List (List Datum)) → IsIndex 2 rows columns.now
-        → IsIndex 2 others validation.now → Answers (λ cs. columns_of cs.items) result
+        → IsIndex 2 others validation.now → ReturnsOrOutOfMemory (λ cs. columns_of cs.items) result
         (or_refused (columns_read others (filter (begins_with table.now) rows) count 1)
         InvalidData) }
 {
@@ -51,7 +51,7 @@ fn numbered_column<'m, 'a>(
 ) -> Result<Column, Error>
     requires { number < 2 ^ 31 }
     ensures { (rows others : List (List Datum)) → IsIndex 2 rows columns.now
-        → IsIndex 2 others validation.now → Answers column_of result
+        → IsIndex 2 others validation.now → ReturnsOrOutOfMemory column_of result
         (or_refused (option_and_then (column_read others)
         (find (is_number number) (filter (begins_with table.now) rows))) InvalidData) }
 {
@@ -80,7 +80,7 @@ fn pair<'a>(
     second: BorrowedValue<'a>,
 ) -> Result<Vec<BorrowedValue<'a>>, Error>
     ensures ok { IfOk result (λ key. key.items ≡ first.entry ∷ second.entry ∷ []) }
-    ensures err { IfErr result (λ e. e ≡ Memory) }
+    ensures errors { IfErr result (λ e. e ≡ Memory) }
 {
     let mut key = Vec::new(alloc);
     key.push(first)?;

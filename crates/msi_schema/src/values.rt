@@ -19,7 +19,7 @@ pub fn values_of_rows<'a>(
 ) -> Result<Vec<Vec<BorrowedValue<'a>>>, Error>
     ensures ok { IfOk result (λ values. rows_said values.items
         ≡ map (row_data pool.now.pool) (rows_held rows.now)) }
-    ensures err { IfErr result (λ e. e ≡ Memory) }
+    ensures errors { IfErr result (λ e. e ≡ Memory) }
 {
     let mut values = Vec::new(alloc);
     for row in rows {
@@ -36,7 +36,7 @@ fn values_of_row<'a>(
 ) -> Result<Vec<BorrowedValue<'a>>, Error>
     ensures ok { IfOk result (λ values. borrowed_data values.items
         ≡ row_data pool.now.pool row.now) }
-    ensures err { IfErr result (λ e. e ≡ Memory) }
+    ensures errors { IfErr result (λ e. e ≡ Memory) }
 {
     let mut values = Vec::new(alloc);
     for cell in row {

@@ -2,21 +2,21 @@
 use Rattle.std.proofs.Common.{◌≡◌, ◌⊎◌, inl, inr, subst, sym}
 use Rattle.std.specs.Prelude.{Err, IfErr, Ok, Result}
 use Rattle.cfb.proofs.Wants.{want_is}
-use Rattle.cfb.specs.Putting.{IsRefusedOpening}
-use Rattle.cfb.specs.Streams.{IsWant}
+use Rattle.cfb.specs.Putting.{IsOpenStreamError}
+use Rattle.cfb.specs.Streams.{IsFileMemoryOrFailed}
 use Rattle.cfb.specs.declared.compound_file.CompoundFile.{CompoundFile}
-use Rattle.cfb_medium.specs.Calls.{IsFaultUnless}
+use Rattle.cfb_medium.specs.Calls.{IsFaultOrInvalidInputIf}
 use Rattle.cfb_medium.specs.declared.error.Error.{Error}
 use Rattle.cfb_medium.specs.declared.error.Error.TheVariants.{InvalidData, Memory}
 use Rattle.cfb_medium.specs.declared.medium.ReadMedium.{Ghosts}
 use Rattle.msi_store.proofs.Refusals.{IsOfBytes, Refuses}
 use Rattle.msi_stored.specs.Reading.{IsOpeningError}
-use Rattle.msi_texts.specs.Results.{Answers}
+use Rattle.msi_texts.specs.Results.{ReturnsOrOutOfMemory}
 
 pub memory_kind : (e : Error) → e ≡ Memory → IsOpeningError e
-memory_kind e is = inl (subst (IsFaultUnless ⊥) (sym is) tt)
+memory_kind e is = inl (subst (IsFaultOrInvalidInputIf ⊥) (sym is) tt)
 
-pub read_kind : (e : Error) → IsFaultUnless ⊥ e ⊎ (e ≡ InvalidData) → IsOpeningError e
+pub read_kind : (e : Error) → IsFaultOrInvalidInputIf ⊥ e ⊎ (e ≡ InvalidData) → IsOpeningError e
 read_kind e (inl fault) = inl fault
 read_kind e (inr is) = inr (inl is)
 
@@ -29,7 +29,7 @@ err_kind (Ok x) d refuses told = tt
 err_kind (Err e) d refuses (inl memory) = memory_kind e memory
 err_kind (Err e) d refuses (inr is) = of_bytes e (subst Refuses is refuses)
 
-pub answer_kind : {X Y : Type 0} (see : X → Y) (r : Result X Error) (d : Result Y Error) → Refuses d → Answers see r d → IfErr r IsOpeningError
+pub answer_kind : {X Y : Type 0} (see : X → Y) (r : Result X Error) (d : Result Y Error) → Refuses d → ReturnsOrOutOfMemory see r d → IfErr r IsOpeningError
 answer_kind see (Ok x) d refuses told = tt
 answer_kind {X} see (Err e) d refuses told = err_kind {X = X} (Err e) d refuses told
 
@@ -42,7 +42,7 @@ schema_kind P (Ok x) err = tt
 schema_kind P (Err e) (inl memory) = memory_kind e memory
 schema_kind P (Err e) (inr both) = inr (inl both.0)
 
-pub root_kind : {F : Type 0} {g : Ghosts F} (it : CompoundFile F g) (e : Error) → IsWant it e ⊎ IsRefusedOpening e → IsOpeningError e
+pub root_kind : {F : Type 0} {g : Ghosts F} (it : CompoundFile F g) (e : Error) → IsFileMemoryOrFailed it e ⊎ IsOpenStreamError e → IsOpeningError e
 root_kind it e (inl want) = inl (want_is it e want)
 root_kind it e (inr (inl is)) = inr (inl is)
 root_kind it e (inr (inr (inl is))) = inr (inr (inl is))

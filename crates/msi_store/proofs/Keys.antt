@@ -11,12 +11,12 @@ use Rattle.std.specs.declared.alloc.Global.{Global}
 use Rattle.std.specs.declared.cmp.Ordering.{Ordering}
 use Rattle.std.specs.declared.cmp.Ordering.TheVariants.{Equal, Greater, Less}
 use Rattle.cfb_tree.proofs.NameOrder.{name_cmp_equal, slice_cmp_equal}
-use Rattle.cfb_tree.specs.Names.{Letters, name_key}
+use Rattle.cfb_tree.specs.Names.{CaseTable, name_key}
 use Rattle.cfb_tree.specs.Objects.{is_same_name}
-use Rattle.msi_meaning.proofs.SystemRows.{bytes_same}
+use Rattle.msi_spec.proofs.SystemRows.{bytes_same}
 use Rattle.msi_values.proofs.DataOrder.{is_equal}
-use Rattle.msi_meaning.specs.Package.{data_name, pool_name, stream_name}
-use Rattle.msi_store.specs.Placing.{HasKeys, is_one_of, is_placed}
+use Rattle.msi_spec.specs.Package.{data_name, pool_name, stream_name}
+use Rattle.msi_store.specs.Placing.{KeysMatchTables, is_one_of, is_placed}
 use Rattle.msi_store.specs.declared.placing.TableStreams.{TableStreams}
 use Rattle.msi_tables.specs.Table.{Heading}
 use Rattle.msi_texts.specs.StreamName.{is_marked}
@@ -52,7 +52,7 @@ inserted key (x ∷ xs) k = by (vec_cmp k x) refl (inserted key xs k)
     by Greater e later = ap (λ b. is_key key x || b) later ∙ turned (is_key key x) (is_key key k) (list_any (is_key key) xs)
 
 -- a name is another's by key, whichever way keys are compared
-pub same_is : (letters : Letters) (n m : List ℕ) → is_eq (slice_cmp nat_cmp (name_key letters m) (name_key letters n)) ≡ is_same_name letters n m
+pub same_is : (letters : CaseTable) (n m : List ℕ) → is_eq (slice_cmp nat_cmp (name_key letters m) (name_key letters n)) ≡ is_same_name letters n m
 same_is letters n m = by (is_eq (slice_cmp nat_cmp (name_key letters m) (name_key letters n))) (is_same_name letters n m) refl refl
   where
     of_key : is_eq (slice_cmp nat_cmp (name_key letters m) (name_key letters n)) ≡ true → is_same_name letters n m ≡ true
@@ -72,19 +72,19 @@ same_is letters n m = by (is_eq (slice_cmp nat_cmp (name_key letters m) (name_ke
     by false false ea eb = ea ∙ sym eb
 
 -- the key of a name is among those of names where one of these is the name
-pub one_of : (letters : Letters) (names : List (List ℕ)) (name : List ℕ) → list_any (λ n. is_eq (slice_cmp nat_cmp (name_key letters name) (name_key letters n))) names ≡ is_one_of letters names name
+pub one_of : (letters : CaseTable) (names : List (List ℕ)) (name : List ℕ) → list_any (λ n. is_eq (slice_cmp nat_cmp (name_key letters name) (name_key letters n))) names ≡ is_one_of letters names name
 one_of letters [] name = refl
 one_of letters (n ∷ ns) name = ap (λ b. b || list_any (λ n. is_eq (slice_cmp nat_cmp (name_key letters name) (name_key letters n))) ns) (same_is letters n name) ∙ ap (λ b. is_same_name letters n name || b) (one_of letters ns name)
 
 -- the key of a name stands among those of tables where the name counts as one of theirs
-pub is_found : (letters : Letters) (headings : List Heading) (it : TableStreams) → HasKeys letters headings it → (key name : List ℕ) → key ≡ name_key letters name
+pub is_found : (letters : CaseTable) (headings : List Heading) (it : TableStreams) → KeysMatchTables letters headings it → (key name : List ℕ) → key ≡ name_key letters name
     → contains_by (λ x. slice_cmp nat_cmp key x.items) it.keys ≡ is_one_of letters (map (λ h. stream_name h.name) headings) name
 is_found letters headings it has key name same =
     let names = map (λ h. stream_name h.name) headings in
     has.keys key ∙ ap (λ k. list_any (λ n. is_eq (slice_cmp nat_cmp k (name_key letters n))) names) same ∙ one_of letters names name
 
 -- a stream stands where it may: it isn't marked, or is a table's, or one of the pool's two
-pub placed_stream : (letters : Letters) (headings : List Heading) (name : List ℕ) (marked table pool : Bool)
+pub placed_stream : (letters : CaseTable) (headings : List Heading) (name : List ℕ) (marked table pool : Bool)
     → marked ≡ is_marked name → table ≡ is_one_of letters (map (λ h. stream_name h.name) headings) name
     → pool ≡ is_same_name letters (stream_name pool_name) name || is_same_name letters (stream_name data_name) name
     → not marked || (table || pool) ≡ is_placed letters headings name false
@@ -108,7 +108,7 @@ equal_index Equal = refl
 equal_index Greater = refl
 
 -- the keys of names, and that of one more
-pub one_more : (letters : Letters) (names : List (List ℕ)) (name : List ℕ) (old : List (Vec ℕ Global)) (k : Vec ℕ Global) → k.items ≡ name_key letters name
+pub one_more : (letters : CaseTable) (names : List (List ℕ)) (name : List ℕ) (old : List (Vec ℕ Global)) (k : Vec ℕ Global) → k.items ≡ name_key letters name
     → ((key : List ℕ) → list_any (is_key key) old ≡ list_any (λ n. is_eq (slice_cmp nat_cmp key (name_key letters n))) names)
     → (key : List ℕ) → list_any (is_key key) (insert_key vec_cmp old k) ≡ list_any (λ n. is_eq (slice_cmp nat_cmp key (name_key letters n))) (names ++ name ∷ [])
 one_more letters names name old k same told key =

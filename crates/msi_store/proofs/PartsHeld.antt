@@ -4,15 +4,15 @@ use Rattle.std.specs.Prelude.{Err, Ok, Result, bytes_eq, if◌then◌else◌}
 use Rattle.std.proofs.lemmas.Slice.Eq.{bytes_eq-Decides}
 use Rattle.cfb_medium.specs.declared.error.Error.{Error}
 use Rattle.cfb_medium.specs.declared.error.Error.TheVariants.{InvalidData}
-use Rattle.cfb_tree.specs.Names.{Letters}
+use Rattle.cfb_tree.specs.Names.{CaseTable}
 use Rattle.cfb_tree.specs.Tree.{Tree}
-use Rattle.msi_meaning.specs.Opening.{kind_of, may_use, opened}
-use Rattle.msi_meaning.specs.Package.{class_of}
-use Rattle.msi_meaning.specs.declared.kind.PackageType.{PackageType}
-use Rattle.msi_meaning.specs.declared.kind.PackageType.TheVariants.{Installer, Patch, Transform}
+use Rattle.msi_spec.specs.Opening.{kind_of, keeps_encoded_names, opened}
+use Rattle.msi_spec.specs.Package.{class_of}
+use Rattle.msi_spec.specs.declared.kind.PackageType.{PackageType}
+use Rattle.msi_spec.specs.declared.kind.PackageType.TheVariants.{Installer, Patch, Transform}
 use Rattle.msi_parts.proofs.Collected.{builder_is, collected, pool_is, summary_is}
 use Rattle.msi_parts.proofs.OpenedParts.{builder_refused, kind_refused, pool_refused, schema_refused, summary_refused}
-use Rattle.msi_parts.specs.Held.{AreHeld, headings_in}
+use Rattle.msi_parts.specs.Held.{ArePartsOfTree, headings_in}
 use Rattle.msi_parts.specs.Parts.{HasSchema, IsBegun, IsBuilt, IsSummary, builder_in, built_in, schema_in, summary_in}
 use Rattle.msi_parts.specs.declared.parts.PackageParts.{PackageParts}
 use Rattle.msi_pool.specs.Pool.{Pool}
@@ -44,12 +44,12 @@ kind_has_class clsid kind is = first (bytes_eq clsid (class_of Installer)) refl 
     first false same is = second (bytes_eq clsid (class_of Patch)) refl is
 
 -- a refusal of the definition, or a part is lost
-abbrev pub Leaves : {A : Type 0} → Letters → List ℕ → Result A Error → Error → Type 0
+abbrev pub Leaves : {A : Type 0} → CaseTable → List ℕ → Result A Error → Error → Type 0
 Leaves letters bytes d e = IsLostPart letters bytes e ⊎ (d ≡ Err e)
 
-module _ (letters : Letters) (bytes : List ℕ) (tree : Tree) (may : may_use letters ≡ true) where
+module _ (letters : CaseTable) (bytes : List ℕ) (tree : Tree) (may : keeps_encoded_names letters ≡ true) where
   abbrev pub Read : Result PackageParts Error → Type 0
-  Read r = FindsPart letters bytes (AreHeld letters tree) (opened letters tree) r
+  Read r = FindsPart letters bytes (ArePartsOfTree letters tree) (opened letters tree) r
 
   left : {A : Type 0} (d : Result A Error) (r : Result PackageParts Error) (e : Error) → r ≡ Err e → Leaves letters bytes d e → (d ≡ Err e → opened letters tree ≡ Err e) → Read r
   left d r e same why refuses = subst Read (sym same) (elim why [ inl lost ↦ inl lost | inr is ↦ inr (refuses is) ])
@@ -75,7 +75,7 @@ module _ (letters : Letters) (bytes : List ℕ) (tree : Tree) (may : may_use let
               left (schema_in letters tree p) r e is why
               (schema_refused letters tree may kind is_kind s.props (summary_is letters tree s is_s) b (builder_is letters tree b is_b) p (pool_is letters tree b p back is_p) e)
 
-          pub parts_end : (it : PackageParts) → it.kind ≡ kind → it.summary ≡ s → it.pool.pool ≡ p → it.gives_back ≡ back → it.pool.modified ≡ false → HasSchema letters tree p (headings_in it) → AreHeld letters tree it
+          pub parts_end : (it : PackageParts) → it.kind ≡ kind → it.summary ≡ s → it.pool.pool ≡ p → it.gives_back ≡ back → it.pool.modified ≡ false → HasSchema letters tree p (headings_in it) → ArePartsOfTree letters tree it
           parts_end it ek es ep eb unmodified schema = record {
             parts = rw (ek, es, ep, eb) (collected letters tree kind s b p back (headings_in it) (kind_has_class tree.root.clsid kind is_kind) is_s is_b is_p schema);
             unmodified = unmodified;

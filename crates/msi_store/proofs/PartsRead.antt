@@ -6,23 +6,23 @@ use Rattle.std.specs.declared.rc.Rc.{Rc}
 use Rattle.std.specs.Str.{chars}
 use Rattle.cfb_entries.specs.Listed.{Listed, listed}
 use Rattle.cfb_fat.specs.Keeping.{own_cause}
-use Rattle.cfb_fat.specs.Tables.{HasCauseBelow}
+use Rattle.cfb_fat.specs.Tables.{IsJustifiedBySectors}
 use Rattle.cfb_fat.specs.declared.allocator.Allocator.{Allocator}
-use Rattle.cfb_meaning.specs.TreeRules.{Answer, Shown, an_entry, root_object, shown}
-use Rattle.cfb_medium.specs.Calls.{IsFaultUnless}
+use Rattle.cfb_spec.specs.TreeRules.{Answer, ShownObject, an_entry, root_object, shown}
+use Rattle.cfb_medium.specs.Calls.{IsFaultOrInvalidInputIf}
 use Rattle.cfb_medium.specs.declared.error.Error.{Error}
 use Rattle.cfb_medium.specs.declared.error.Error.TheVariants.{Device, Failed, InvalidData, Memory, NotFound, UnexpectedEof}
 use Rattle.cfb_medium.specs.declared.medium.ReadMedium.{Ghosts}
-use Rattle.cfb_tree.specs.Names.{Letters}
+use Rattle.cfb_tree.specs.Names.{CaseTable}
 use Rattle.cfb_tree.specs.Tree.{Tree}
-use Rattle.msi_meaning.specs.Opening.{rows_by, summary_read}
-use Rattle.msi_meaning.specs.Package.{data_name, objects, pool_name, stream_at, summary_name, table_stream}
+use Rattle.msi_spec.specs.Opening.{rows_by, summary_read}
+use Rattle.msi_spec.specs.Package.{data_name, objects, pool_name, stream_at, summary_name, table_stream}
 use Rattle.msi_parts.specs.Parts.{HasSchema, IsBegun, IsBuilt, IsSummary, builder_in, built_in, schema_in, summary_in}
 use Rattle.msi_pool.specs.Pool.{Pool}
 use Rattle.msi_pool.specs.PoolReading.{Begun, begun, pool_of, texts_give_back as pool_texts_give_back}
 use Rattle.msi_props.specs.Held.{SetState}
 use Rattle.msi_props.specs.Props.{texts_give_back}
-use Rattle.msi_texts.specs.Results.{◌>>=◌, Answers, or_refused, unless_not}
+use Rattle.msi_texts.specs.Results.{◌>>=◌, ReturnsOrOutOfMemory, or_refused, unless_not}
 use Rattle.msi_schema.specs.Headings.{AreTold, headings_in}
 use Rattle.msi_columns.specs.Column.{Column}
 use Rattle.msi_tables.specs.Rows.{Row}
@@ -45,22 +45,22 @@ not_failed (inr short) failed = let no : Failed ≡ UnexpectedEof = sym failed �
 
 module _ {F : Type 0} {g : Ghosts F} (a b : Allocator F g) where
   -- what bytes say has no cause in the medium
-  of_bytes_cause : (e : Error) → IsOfBytes e → HasCauseBelow a b e
+  of_bytes_cause : (e : Error) → IsOfBytes e → IsJustifiedBySectors a b e
   of_bytes_cause e is = own_cause a b e (λ device. absurd (not_device is device)) (λ failed. absurd (not_failed is failed))
 
-  pub err_cause : {X Y : Type 0} (r : Result X Error) (d : Result Y Error) → Refuses d → IfErr r (λ e. (e ≡ Memory) ⊎ (d ≡ Err e)) → IfErr r (HasCauseBelow a b)
+  pub err_cause : {X Y : Type 0} (r : Result X Error) (d : Result Y Error) → Refuses d → IfErr r (λ e. (e ≡ Memory) ⊎ (d ≡ Err e)) → IfErr r (IsJustifiedBySectors a b)
   err_cause (Ok x) d refuses told = tt
   err_cause (Err e) d refuses told = elim told [ inl memory ↦ memory_cause a b e memory | inr is ↦ of_bytes_cause e (subst Refuses is refuses) ]
 
-  pub answer_cause : {X Y : Type 0} (see : X → Y) (r : Result X Error) (d : Result Y Error) → Refuses d → Answers see r d → IfErr r (HasCauseBelow a b)
+  pub answer_cause : {X Y : Type 0} (see : X → Y) (r : Result X Error) (d : Result Y Error) → Refuses d → ReturnsOrOutOfMemory see r d → IfErr r (IsJustifiedBySectors a b)
   answer_cause see (Ok x) d refuses told = tt
   answer_cause {X} see (Err e) d refuses told = err_cause {X = X} (Err e) d refuses told
 
-  pub same_cause : {X : Type 0} (r d : Result X Error) → Refuses d → r ≡ d → IfErr r (HasCauseBelow a b)
+  pub same_cause : {X : Type 0} (r d : Result X Error) → Refuses d → r ≡ d → IfErr r (IsJustifiedBySectors a b)
   same_cause (Ok x) d refuses is = tt
   same_cause (Err e) d refuses is = of_bytes_cause e (subst Refuses (sym is) refuses)
 
-  pub missing_cause : (e : Error) → e ≡ NotFound → HasCauseBelow a b e
+  pub missing_cause : (e : Error) → e ≡ NotFound → IsJustifiedBySectors a b e
   missing_cause e is = own_cause a b e (λ device. let no : Device ≡ NotFound = sym device ∙ is in absurd (cc)) (λ failed. let no : Failed ≡ NotFound = sym failed ∙ is in absurd (cc))
 
 -- ---- the kind
@@ -69,7 +69,7 @@ abbrev class_in : Answer → List ℕ
 class_in (an_entry s) = s.facts.clsid
 class_in _ = []
 
-pub root_class : (tree : Tree) (l : Listed) (s : Shown) → an_entry (shown [] (root_object tree)) ≡ an_entry s → l ≡ listed s → l.facts.clsid ≡ tree.root.clsid
+pub root_class : (tree : Tree) (l : Listed) (s : ShownObject) → an_entry (shown [] (root_object tree)) ≡ an_entry s → l ≡ listed s → l.facts.clsid ≡ tree.root.clsid
 root_class tree l s is lists = ap (λ (l : Listed). l.facts.clsid) lists ∙ ap class_in (sym is)
 
 -- ---- the summary and the pool
@@ -79,12 +79,12 @@ pub summary_chars : summary_name ≡ chars summary_name
 unfolding chars
 summary_chars = refl
 
-module _ (letters : Letters) (tree : Tree) where
+module _ (letters : CaseTable) (tree : Tree) where
   pub summary_found : (whole bytes : List ℕ) (r : Result SetState Error) → stream_at letters (objects tree.content) summary_name ≡ Some bytes
-      → Answers (λ s. s.props) r (summary_read bytes) → IfOk r (λ s. s.whole ≡ texts_give_back bytes) → FindsPart letters whole (IsSummary letters tree) (summary_in letters tree) r
+      → ReturnsOrOutOfMemory (λ s. s.props) r (summary_read bytes) → IfOk r (λ s. s.whole ≡ texts_give_back bytes) → FindsPart letters whole (IsSummary letters tree) (summary_in letters tree) r
   summary_found whole bytes (Ok s) at read back = record { bytes = bytes; at = at; read = read; whole = back }
   summary_found whole bytes (Err e) at read back = elim read [
-    | inl memory ↦ inl (inl (subst (IsFaultUnless ⊥) (sym memory) tt))
+    | inl memory ↦ inl (inl (subst (IsFaultOrInvalidInputIf ⊥) (sym memory) tt))
     | inr is ↦ inr (ap (λ o. or_refused o NotFound >>= summary_read) at ∙ is)
   ]
 
@@ -92,10 +92,10 @@ module _ (letters : Letters) (tree : Tree) where
   summary_missing at = ap (λ o. or_refused o NotFound >>= summary_read) at
 
   pub builder_found : (whole bytes : List ℕ) (r : Result Begun Error) → table_stream letters (objects tree.content) pool_name ≡ Some bytes → ((i : ℕ) → slice_index bytes i < 256)
-      → Answers (λ b. b) r (begun bytes) → FindsPart letters whole (IsBegun letters tree) (builder_in letters tree) r
+      → ReturnsOrOutOfMemory (λ b. b) r (begun bytes) → FindsPart letters whole (IsBegun letters tree) (builder_in letters tree) r
   builder_found whole bytes (Ok b) at small read = record { bytes = bytes; at = at; small = small; begins = read }
   builder_found whole bytes (Err e) at small read = elim read [
-    | inl memory ↦ inl (inl (subst (IsFaultUnless ⊥) (sym memory) tt))
+    | inl memory ↦ inl (inl (subst (IsFaultOrInvalidInputIf ⊥) (sym memory) tt))
     | inr is ↦ inr (ap (λ o. or_refused o NotFound >>= begun) at ∙ is)
   ]
 
@@ -117,7 +117,7 @@ module _ (letters : Letters) (tree : Tree) where
 abbrev Tables : Type 0
 Tables = Vec (Rc Table Global) Global
 
-module _ (letters : Letters) (tree : Tree) (pool : Pool) where
+module _ (letters : CaseTable) (tree : Tree) (pool : Pool) where
   abbrev told : List Row → List Row → List Row → Bool
   told t c v = is_schema (map (row_data pool) t) (map (row_data pool) c) (map (row_data pool) v)
 
@@ -157,22 +157,22 @@ module _ (letters : Letters) (tree : Tree) (pool : Pool) where
           described = ok.1;
         }
         schema_found whole (Err e) ok err = elim err [
-          | inl memory ↦ inl (inl (subst (IsFaultUnless ⊥) (sym memory) tt))
+          | inl memory ↦ inl (inl (subst (IsFaultOrInvalidInputIf ⊥) (sym memory) tt))
           | inr both ↦ inr (undescribed both.1 ∙ ap (λ x. Err x) (sym both.0))
         ]
 
 -- ---- where the schema is left
 
-abbrev pub Found : Letters → List ℕ → Tree → Pool → Result Tables Error → Type 0
+abbrev pub Found : CaseTable → List ℕ → Tree → Pool → Result Tables Error → Type 0
 Found letters bytes tree pool r = FindsPart letters bytes (λ ts. HasSchema letters tree pool (headings_in ts.items)) (schema_in letters tree pool) r
 
-abbrev pub Refused : Letters → List ℕ → Tree → Pool → List ℕ → List Column → Error → Type 0
+abbrev pub Refused : CaseTable → List ℕ → Tree → Pool → List ℕ → List Column → Error → Type 0
 Refused letters bytes tree pool name columns e = IsLostPart letters bytes e ⊎ (rows_by letters (objects tree.content) pool name columns ≡ Err e)
 
-abbrev pub Reads : Letters → Tree → Pool → List ℕ → List Column → List Row → Type 0
+abbrev pub Reads : CaseTable → Tree → Pool → List ℕ → List Column → List Row → Type 0
 Reads letters tree pool name columns rows = rows_by letters (objects tree.content) pool name columns ≡ Ok rows
 
-module _ (letters : Letters) (bytes : List ℕ) (tree : Tree) (pool : Pool) where
+module _ (letters : CaseTable) (bytes : List ℕ) (tree : Tree) (pool : Pool) where
   -- columns that are the fixed ones
   fixed : {x : Result (List Row) Error} (name : List ℕ) (columns known : List Column) → columns ≡ known → rows_by letters (objects tree.content) pool name columns ≡ x → rows_by letters (objects tree.content) pool name known ≡ x
   fixed name columns known same is = ap (λ cs. rows_by letters (objects tree.content) pool name cs) (sym same) ∙ is
@@ -207,7 +207,7 @@ module _ (letters : Letters) (bytes : List ℕ) (tree : Tree) (pool : Pool) wher
             v (fixed validation_name vs validation_columns same_validation is_v) bytes r ok err
 
 -- rows that describe nothing have no cause in the medium
-pub schema_cause : {F : Type 0} {g : Ghosts F} (a b : Allocator F g) {X : Type 0} (P : Type 0) (r : Result X Error) → IfErr r (λ e. (e ≡ Memory) ⊎ ((e ≡ InvalidData) × P)) → IfErr r (HasCauseBelow a b)
+pub schema_cause : {F : Type 0} {g : Ghosts F} (a b : Allocator F g) {X : Type 0} (P : Type 0) (r : Result X Error) → IfErr r (λ e. (e ≡ Memory) ⊎ ((e ≡ InvalidData) × P)) → IfErr r (IsJustifiedBySectors a b)
 schema_cause a b P (Ok x) err = tt
 schema_cause a b P (Err e) err = elim err [ inl memory ↦ memory_cause a b e memory | inr both ↦ data_cause a b e both.0 ]
 

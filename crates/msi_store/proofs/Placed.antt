@@ -2,21 +2,21 @@
 use Rattle.std.proofs.Common.{◌≡◌, ◌∙◌, Bool, List, [], map, sym, ap, subst, arith}
 use Rattle.std.specs.Prelude.{◌↔◌, All, Err, IfErr, IfOk, IsTrue, MatchResult, Ok, Result}
 use Rattle.std.specs.List.{list_all}
-use Rattle.cfb_medium.specs.Calls.{IsFaultUnless}
+use Rattle.cfb_medium.specs.Calls.{IsFaultOrInvalidInputIf}
 use Rattle.cfb_medium.specs.declared.error.Error.{Error}
 use Rattle.cfb_medium.specs.declared.error.Error.TheVariants.{Memory}
 use Rattle.msi_parts.proofs.Judging.{all_of, each_of}
 use Rattle.std.proofs.lemmas.List.Elements.{All-cons, All-head, All-tail}
 use Rattle.cfb_entries.specs.Listed.{Listed, listed}
-use Rattle.cfb_meaning.specs.TreeRules.{Answer, Shown, a_storage, a_stream, children_shown, entries}
-use Rattle.cfb_tree.specs.Names.{Letters}
+use Rattle.cfb_spec.specs.TreeRules.{Answer, ShownObject, a_storage, a_stream, children_shown, entries}
+use Rattle.cfb_tree.specs.Names.{CaseTable}
 use Rattle.cfb_tree.specs.Tree.{Content, nothing, storage, stream}
-use Rattle.msi_meaning.specs.Package.{objects}
+use Rattle.msi_spec.specs.Package.{objects}
 use Rattle.msi_parts.specs.Judged.{is_in_place}
 use Rattle.msi_store.specs.Placing.{is_placed}
 use Rattle.msi_tables.specs.Table.{Heading}
 
-module _ (letters : Letters) (headings : List Heading) where
+module _ (letters : CaseTable) (headings : List Heading) where
   -- an object that is listed stands where it may
   abbrev pub is_well : Listed → Bool
   is_well l = is_placed letters headings l.name l.is_storage
@@ -47,14 +47,14 @@ module _ (letters : Letters) (headings : List Heading) where
   )
 
   pub told_placed : (c : Content) (r : Result Bool Error) → IfOk r (λ are. are ≡ list_all is_well (map listed (children_shown [] c))) → IfErr r (λ e. e ≡ Memory)
-      → MatchResult r (λ are. IsTrue are ↔ All (λ o. IsTrue (is_in_place letters headings o)) (objects c)) (IsFaultUnless ⊥)
+      → MatchResult r (λ are. IsTrue are ↔ All (λ o. IsTrue (is_in_place letters headings o)) (objects c)) (IsFaultOrInvalidInputIf ⊥)
   told_placed c (Ok b) ok err = told_all c b ok
-  told_placed c (Err e) ok err = subst (IsFaultUnless ⊥) (sym err) tt
+  told_placed c (Err e) ok err = subst (IsFaultOrInvalidInputIf ⊥) (sym err) tt
 
 -- the answer of a listing has these
-abbrev of_answer : List Shown → Answer → List Shown
+abbrev of_answer : List ShownObject → Answer → List ShownObject
 of_answer d (entries all) = all
 of_answer d _ = d
 
-pub listed_same : (c : Content) (all : List Shown) → entries (children_shown [] c) ≡ entries all → all ≡ children_shown [] c
+pub listed_same : (c : Content) (all : List ShownObject) → entries (children_shown [] c) ≡ entries all → all ≡ children_shown [] c
 listed_same c all e = sym (ap (of_answer []) e)

@@ -3,9 +3,9 @@ use Rattle.std.proofs.Common.{◌≡◌, ◌⊎◌, ℕ, zero, suc, Bool, true, 
 use Rattle.std.specs.Prelude.{◌==◌, ◌&&◌, Err, IfErr, Ok, Option, Result, bytes_eq, drop, find, if◌then◌else◌, nat_lt, option_map, take}
 use Rattle.cfb_medium.specs.declared.error.Error.{Error}
 use Rattle.cfb_medium.specs.declared.error.Error.TheVariants.{InvalidData, UnexpectedEof}
-use Rattle.msi_meaning.specs.Opening.{kind_of, summary_read}
-use Rattle.msi_meaning.specs.Package.{class_of}
-use Rattle.msi_meaning.specs.declared.kind.PackageType.TheVariants.{Installer, Patch, Transform}
+use Rattle.msi_spec.specs.Opening.{kind_of, summary_read}
+use Rattle.msi_spec.specs.Package.{class_of}
+use Rattle.msi_spec.specs.declared.kind.PackageType.TheVariants.{Installer, Patch, Transform}
 use Rattle.msi_pool.specs.PoolReading.{Begun, Heads, begun, head_at, heads_at, length_at, page_number, places_at, pool_of, texts_at}
 use Rattle.msi_props.specs.Props.{head_at as set_head_at, page_at, page_in, page_told, pairs_at, properties_at, property_at, property_of, props_read, section_at, stored_props, system_of, text_at}
 use Rattle.msi_summary.specs.Summary.{summary_format}

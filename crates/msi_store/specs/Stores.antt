@@ -4,7 +4,7 @@ use Rattle.cfb.specs.declared.compound_file.CompoundFile.{CompoundFile}
 use Rattle.cfb_medium.specs.declared.medium.ReadMedium.{Ghosts}
 use Rattle.msi_schema.specs.Headings.{headings_in}
 use Rattle.msi_store.specs.declared.store.Store.{Store}
-use Rattle.msi_stored.specs.Stored.{Stored}
+use Rattle.msi_stored.specs.StoredPackages.{StoredTables}
 use Rattle.msi_tables.specs.Table.{Heading}
 
 module _ {F : Type 0} {g : Ghosts F} where
@@ -17,5 +17,5 @@ module _ {F : Type 0} {g : Ghosts F} where
   tables_in it = headings_in it.tables.items
 
   -- both
-  abbrev pub stored_in : Store F g → Stored F g
+  abbrev pub stored_in : Store F g → StoredTables F g
   stored_in it = (file_in it, tables_in it)

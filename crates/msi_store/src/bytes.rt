@@ -1,16 +1,16 @@
 //! The bytes of streams under the root, by their names.
 ghost use Rattle.std.specs.Prelude.{◌≡◌, ◌⊎◌, ◌∷◌, [], chars, option_map, unwrap_or, IfErr, MatchResult, Some};
-ghost use Rattle.cfb.specs.Streams.{FileHolds};
-ghost use Rattle.cfb.specs.Views.{letters_in, mini_of, FileRests};
+ghost use Rattle.cfb.specs.Streams.{FileHoldsTree};
+ghost use Rattle.cfb.specs.Views.{file_case_table, mini_of, OnlyReadsFile};
 ghost use Rattle.cfb_entries.specs.Rules.{names_in};
-ghost use Rattle.cfb_fat.specs.Tables.{HasCauseBelow};
-ghost use Rattle.cfb_medium.specs.Calls.{IsFaultUnless};
+ghost use Rattle.cfb_fat.specs.Tables.{IsJustifiedBySectors};
+ghost use Rattle.cfb_medium.specs.Calls.{IsFaultOrInvalidInputIf};
 ghost use Rattle.cfb_medium.specs.declared.error.Error.TheVariants.{InvalidData};
 ghost use Rattle.cfb_mini.specs.Views.{allocator_of};
 ghost use Rattle.cfb_tree.specs.Tree.{Tree};
-ghost use Rattle.msi_meaning.specs.Package.{has_slash, objects, stream_at, stream_name, table_stream};
+ghost use Rattle.msi_spec.specs.Package.{has_slash, objects, stream_at, stream_name, table_stream};
 ghost use Rattle.msi_store.specs.Broken.{IsAsBroken};
-ghost use Rattle.msi_stored.specs.Shown.{bytes_in, HoldsShown, IsLostAt};
+ghost use Rattle.msi_stored.specs.Shown.{bytes_in, StoreShowsTree, IsLostAt};
 
 use cfb::CompoundFile;
 use cfb_medium::{Error, ReadMedium};
@@ -24,17 +24,17 @@ pub fn stream_bytes<F: ReadMedium>(
     name: &str,
 ) -> Result<Option<Vec<u8>>, Error>
     requires { names_in name.now ≡ Some (chars name.now ∷ []) }
-    ensures told { (tree : Tree) → FileHolds file.old tree → MatchResult result (λ found.
-        stream_at (letters_in file.old) (objects tree.content) (chars name.now)
-        ≡ option_map (λ bytes. bytes.items) found) (IsFaultUnless ⊥) }
-    ensures shown { (tree : Tree) → HoldsShown file.old tree → MatchResult result (λ found.
-        stream_at (letters_in file.old) (objects tree.content) (chars name.now)
+    ensures answer { (tree : Tree) → FileHoldsTree file.old tree → MatchResult result (λ found.
+        stream_at (file_case_table file.old) (objects tree.content) (chars name.now)
+        ≡ option_map (λ bytes. bytes.items) found) (IsFaultOrInvalidInputIf ⊥) }
+    ensures shown { (tree : Tree) → StoreShowsTree file.old tree → MatchResult result (λ found.
+        stream_at (file_case_table file.old) (objects tree.content) (chars name.now)
         ≡ option_map (λ bytes. bytes.items) found)
-        (IsLostAt (letters_in file.old) (bytes_in file.old) (chars name.now)) }
-    ensures rests { FileRests file.old file.new }
-    ensures cause { IfErr result (HasCauseBelow (allocator_of (mini_of file.old))
+        (IsLostAt (file_case_table file.old) (bytes_in file.old) (chars name.now)) }
+    ensures only_reads { OnlyReadsFile file.old file.new }
+    ensures cause { IfErr result (IsJustifiedBySectors (allocator_of (mini_of file.old))
         (allocator_of (mini_of file.new))) }
-    ensures error { IfErr result (λ e. IsFaultUnless ⊥ e ⊎ (e ≡ InvalidData)) }
+    ensures errors { IfErr result (λ e. IsFaultOrInvalidInputIf ⊥ e ⊎ (e ≡ InvalidData)) }
 {
     if !file.is_stream(name) {
         return Ok(None);
@@ -67,17 +67,17 @@ pub fn table_bytes<F: ReadMedium>(
     file: &mut CompoundFile<F>,
     name: &str,
 ) -> Result<Option<Vec<u8>>, Error>
-    ensures told { (tree : Tree) → FileHolds file.old tree → MatchResult result (λ found.
-        table_stream (letters_in file.old) (objects tree.content) name.now
-        ≡ option_map (λ bytes. bytes.items) found) (IsFaultUnless ⊥) }
-    ensures shown { (tree : Tree) → HoldsShown file.old tree → MatchResult result (λ found.
-        table_stream (letters_in file.old) (objects tree.content) name.now
+    ensures answer { (tree : Tree) → FileHoldsTree file.old tree → MatchResult result (λ found.
+        table_stream (file_case_table file.old) (objects tree.content) name.now
+        ≡ option_map (λ bytes. bytes.items) found) (IsFaultOrInvalidInputIf ⊥) }
+    ensures shown { (tree : Tree) → StoreShowsTree file.old tree → MatchResult result (λ found.
+        table_stream (file_case_table file.old) (objects tree.content) name.now
         ≡ option_map (λ bytes. bytes.items) found)
-        (IsLostAt (letters_in file.old) (bytes_in file.old) (stream_name name.now)) }
-    ensures rests { FileRests file.old file.new }
-    ensures cause { IfErr result (HasCauseBelow (allocator_of (mini_of file.old))
+        (IsLostAt (file_case_table file.old) (bytes_in file.old) (stream_name name.now)) }
+    ensures only_reads { OnlyReadsFile file.old file.new }
+    ensures cause { IfErr result (IsJustifiedBySectors (allocator_of (mini_of file.old))
         (allocator_of (mini_of file.new))) }
-    ensures error { IfErr result (λ e. IsFaultUnless ⊥ e ⊎ (e ≡ InvalidData)) }
+    ensures errors { IfErr result (λ e. IsFaultOrInvalidInputIf ⊥ e ⊎ (e ≡ InvalidData)) }
 {
     if has_slash(name) {
         return Ok(None);

@@ -1,27 +1,27 @@
 //! The parts of a package, read from its file.
 ghost use Rattle.std.specs.Prelude.{◌≡◌, ◌⊎◌, ◌<◌, ℕ, false, true, slice_index, Err, IfErr, IfOk, Ok};
-ghost use Rattle.cfb.specs.Views.{letters_in, mini_of, FileRests};
-ghost use Rattle.cfb_fat.specs.Tables.{HasCauseBelow};
+ghost use Rattle.cfb.specs.Views.{file_case_table, mini_of, OnlyReadsFile};
+ghost use Rattle.cfb_fat.specs.Tables.{IsJustifiedBySectors};
 ghost use Rattle.cfb_medium.specs.declared.error.Error.TheVariants.{Memory};
 ghost use Rattle.cfb_mini.specs.Views.{allocator_of};
 ghost use Rattle.cfb_tree.specs.Tree.{Tree};
-ghost use Rattle.msi_meaning.specs.Opening.{kind_of as kind_named, may_use, opened};
-ghost use Rattle.msi_parts.specs.Held.{AreHeld};
+ghost use Rattle.msi_spec.specs.Opening.{kind_of as kind_named, keeps_encoded_names, opened};
+ghost use Rattle.msi_parts.specs.Held.{ArePartsOfTree};
 ghost use Rattle.msi_parts.specs.Parts.{builder_in, built_in, schema_in, summary_in, HasSchema, IsBegun, IsBuilt, IsSummary};
 ghost use Rattle.msi_pool.specs.PoolReading.{begun, pool_of, texts_give_back};
 ghost use Rattle.msi_schema.specs.Headings.{headings_in};
 ghost use Rattle.msi_stored.specs.Reading.{IsOpeningError};
-ghost use Rattle.msi_stored.specs.Shown.{bytes_in, FindsPart, HoldsShown};
-ghost use Rattle.msi_texts.specs.Results.{Answers};
+ghost use Rattle.msi_stored.specs.Shown.{bytes_in, FindsPart, StoreShowsTree};
+ghost use Rattle.msi_texts.specs.Results.{ReturnsOrOutOfMemory};
 
 use crate::bytes::{stream_bytes, table_bytes};
 use crate::system::rows_by_columns;
 use cfb::CompoundFile;
 use cfb_medium::{Error, ReadMedium};
-use msi_meaning::PackageType;
 use msi_parts::{PackageParts, kind_of};
 use msi_pool::{StringPool, StringPoolBuilder};
 use msi_schema::{columns_columns, schema_tables, tables_columns, validation_columns};
+use msi_spec::PackageType;
 use msi_summary::SummaryInfo;
 use msi_tables::Table;
 use msi_texts::SUMMARY_INFO_STREAM_NAME;
@@ -37,13 +37,15 @@ pub fn read_parts<F: ReadMedium>(
     alloc: Global,
     file: &mut CompoundFile<F>,
 ) -> Result<PackageParts, Error>
-    ensures shown { (tree : Tree) → HoldsShown file.old tree → may_use (letters_in file.old) ≡ true
-        → FindsPart (letters_in file.old) (bytes_in file.old) (AreHeld (letters_in file.old) tree)
-        (opened (letters_in file.old) tree) result }
-    ensures rests { FileRests file.old file.new }
-    ensures cause { IfErr result (HasCauseBelow (allocator_of (mini_of file.old))
+    ensures shown { (tree : Tree) → StoreShowsTree file.old tree
+        → keeps_encoded_names (file_case_table file.old) ≡ true
+        → FindsPart (file_case_table file.old) (bytes_in file.old)
+        (ArePartsOfTree (file_case_table file.old) tree)
+        (opened (file_case_table file.old) tree) result }
+    ensures only_reads { OnlyReadsFile file.old file.new }
+    ensures cause { IfErr result (IsJustifiedBySectors (allocator_of (mini_of file.old))
         (allocator_of (mini_of file.new))) }
-    ensures kinds { IfErr result IsOpeningError }
+    ensures errors { IfErr result IsOpeningError }
 {
     let kind = kind_in(file)?;
     let summary = summary_of(alloc, file)?;
@@ -61,12 +63,13 @@ pub fn read_parts<F: ReadMedium>(
 
 // What the package is for.
 fn kind_in<F: ReadMedium>(file: &CompoundFile<F>) -> Result<PackageType, Error>
-    ensures shown { (tree : Tree) → HoldsShown file.now tree → FindsPart (letters_in file.now)
+    ensures shown { (tree : Tree) → StoreShowsTree file.now tree
+        → FindsPart (file_case_table file.now)
         (bytes_in file.now) (λ kind. kind_named tree.root.clsid ≡ Ok kind)
         (kind_named tree.root.clsid) result }
-    ensures cause { IfErr result (HasCauseBelow (allocator_of (mini_of file.now))
+    ensures cause { IfErr result (IsJustifiedBySectors (allocator_of (mini_of file.now))
         (allocator_of (mini_of file.now))) }
-    ensures kinds { IfErr result IsOpeningError }
+    ensures errors { IfErr result IsOpeningError }
 {
     match file.root_entry() {
         Ok(root) => kind_of(root.clsid()),
@@ -79,13 +82,14 @@ fn summary_of<F: ReadMedium>(
     alloc: Global,
     file: &mut CompoundFile<F>,
 ) -> Result<SummaryInfo, Error>
-    ensures shown { (tree : Tree) → HoldsShown file.old tree → FindsPart (letters_in file.old)
-        (bytes_in file.old) (IsSummary (letters_in file.old) tree)
-        (summary_in (letters_in file.old) tree) result }
-    ensures rests { FileRests file.old file.new }
-    ensures cause { IfErr result (HasCauseBelow (allocator_of (mini_of file.old))
+    ensures shown { (tree : Tree) → StoreShowsTree file.old tree
+        → FindsPart (file_case_table file.old)
+        (bytes_in file.old) (IsSummary (file_case_table file.old) tree)
+        (summary_in (file_case_table file.old) tree) result }
+    ensures only_reads { OnlyReadsFile file.old file.new }
+    ensures cause { IfErr result (IsJustifiedBySectors (allocator_of (mini_of file.old))
         (allocator_of (mini_of file.new))) }
-    ensures kinds { IfErr result IsOpeningError }
+    ensures errors { IfErr result IsOpeningError }
 {
     match stream_bytes(file, SUMMARY_INFO_STREAM_NAME) {
         Ok(Some(bytes)) => SummaryInfo::read(alloc, &bytes),
@@ -99,13 +103,14 @@ fn builder_of<F: ReadMedium>(
     alloc: Global,
     file: &mut CompoundFile<F>,
 ) -> Result<StringPoolBuilder, Error>
-    ensures shown { (tree : Tree) → HoldsShown file.old tree → FindsPart (letters_in file.old)
-        (bytes_in file.old) (IsBegun (letters_in file.old) tree)
-        (builder_in (letters_in file.old) tree) result }
-    ensures rests { FileRests file.old file.new }
-    ensures cause { IfErr result (HasCauseBelow (allocator_of (mini_of file.old))
+    ensures shown { (tree : Tree) → StoreShowsTree file.old tree
+        → FindsPart (file_case_table file.old)
+        (bytes_in file.old) (IsBegun (file_case_table file.old) tree)
+        (builder_in (file_case_table file.old) tree) result }
+    ensures only_reads { OnlyReadsFile file.old file.new }
+    ensures cause { IfErr result (IsJustifiedBySectors (allocator_of (mini_of file.old))
         (allocator_of (mini_of file.new))) }
-    ensures kinds { IfErr result IsOpeningError }
+    ensures errors { IfErr result IsOpeningError }
 {
     match table_bytes(alloc, file, "_StringPool") {
         Ok(Some(bytes)) => builder_from(alloc, &bytes),
@@ -116,7 +121,7 @@ fn builder_of<F: ReadMedium>(
 
 // The same of its bytes.
 fn builder_from(alloc: Global, bytes: &[u8]) -> Result<StringPoolBuilder, Error>
-    ensures read { Answers (λ builder. builder) result (begun bytes.now) }
+    ensures read { ReturnsOrOutOfMemory (λ builder. builder) result (begun bytes.now) }
     ensures small { (i : ℕ) → slice_index bytes.now i < 256 }
 {
     let mut reader = bytes;
@@ -129,14 +134,15 @@ fn built_of<F: ReadMedium>(
     file: &mut CompoundFile<F>,
     builder: StringPoolBuilder,
 ) -> Result<(StringPool, bool), Error>
-    ensures shown { (tree : Tree) → HoldsShown file.old tree → FindsPart (letters_in file.old)
+    ensures shown { (tree : Tree) → StoreShowsTree file.old tree
+        → FindsPart (file_case_table file.old)
         (bytes_in file.old)
-        (λ found. IsBuilt (letters_in file.old) tree builder found.0.pool found.1
-        × (found.0.modified ≡ false)) (built_in (letters_in file.old) tree builder) result }
-    ensures rests { FileRests file.old file.new }
-    ensures cause { IfErr result (HasCauseBelow (allocator_of (mini_of file.old))
+        (λ found. IsBuilt (file_case_table file.old) tree builder found.0.pool found.1
+        × (found.0.modified ≡ false)) (built_in (file_case_table file.old) tree builder) result }
+    ensures only_reads { OnlyReadsFile file.old file.new }
+    ensures cause { IfErr result (IsJustifiedBySectors (allocator_of (mini_of file.old))
         (allocator_of (mini_of file.new))) }
-    ensures kinds { IfErr result IsOpeningError }
+    ensures errors { IfErr result IsOpeningError }
 {
     match table_bytes(alloc, file, "_StringData") {
         Ok(Some(bytes)) => built_from(alloc, builder, &bytes),
@@ -153,7 +159,7 @@ fn built_from(
 ) -> Result<(StringPool, bool), Error>
     ensures built { IfOk result (λ found. (pool_of builder bytes.now ≡ Ok found.0.pool)
         × (texts_give_back builder bytes.now ≡ Ok found.1) × (found.0.modified ≡ false)) }
-    ensures err { IfErr result (λ e. (e ≡ Memory) ⊎ (pool_of builder bytes.now ≡ Err e)) }
+    ensures errors { IfErr result (λ e. (e ≡ Memory) ⊎ (pool_of builder bytes.now ≡ Err e)) }
 {
     let gives_back = builder.gives_back(alloc, bytes)?;
     let mut reader = bytes;
@@ -167,13 +173,15 @@ fn schema_of<F: ReadMedium>(
     file: &mut CompoundFile<F>,
     pool: &StringPool,
 ) -> Result<Vec<Rc<Table>>, Error>
-    ensures shown { (tree : Tree) → HoldsShown file.old tree → FindsPart (letters_in file.old)
-        (bytes_in file.old) (λ tables. HasSchema (letters_in file.old) tree pool.now.pool
-        (headings_in tables.items)) (schema_in (letters_in file.old) tree pool.now.pool) result }
-    ensures rests { FileRests file.old file.new }
-    ensures cause { IfErr result (HasCauseBelow (allocator_of (mini_of file.old))
+    ensures shown { (tree : Tree) → StoreShowsTree file.old tree
+        → FindsPart (file_case_table file.old)
+        (bytes_in file.old) (λ tables. HasSchema (file_case_table file.old) tree pool.now.pool
+        (headings_in tables.items))
+        (schema_in (file_case_table file.old) tree pool.now.pool) result }
+    ensures only_reads { OnlyReadsFile file.old file.new }
+    ensures cause { IfErr result (IsJustifiedBySectors (allocator_of (mini_of file.old))
         (allocator_of (mini_of file.new))) }
-    ensures kinds { IfErr result IsOpeningError }
+    ensures errors { IfErr result IsOpeningError }
 {
     let long = pool.long_string_refs();
     let tables = rows_by_columns(alloc, file, "_Tables", tables_columns(alloc)?, long)?;

@@ -1,21 +1,21 @@
 //! Whether the objects of the root stand where they may, by the names of tables.
 ghost use Rattle.std.specs.Prelude.{◌≡◌, ◌↔◌, All, chars, map, IfErr, IfOk, IsTrue, List, MatchResult};
 ghost use Rattle.std.specs.Rc.{rc_value};
-ghost use Rattle.cfb.specs.Streams.{FileHolds};
-ghost use Rattle.cfb.specs.Views.{letters_in, mini_of};
+ghost use Rattle.cfb.specs.Streams.{FileHoldsTree};
+ghost use Rattle.cfb.specs.Views.{file_case_table, mini_of};
 ghost use Rattle.cfb_entries.specs.Listed.{listed_in};
 ghost use Rattle.cfb_entries.specs.Lists.{entries_left};
 ghost use Rattle.std.specs.List.{list_all};
-ghost use Rattle.cfb_fat.specs.Tables.{HasCauseBelow};
-ghost use Rattle.cfb_medium.specs.Calls.{IsFaultUnless};
+ghost use Rattle.cfb_fat.specs.Tables.{IsJustifiedBySectors};
+ghost use Rattle.cfb_medium.specs.Calls.{IsFaultOrInvalidInputIf};
 ghost use Rattle.cfb_medium.specs.declared.error.Error.TheVariants.{Memory};
 ghost use Rattle.cfb_mini.specs.Views.{allocator_of};
-ghost use Rattle.cfb_tree.specs.LetterViews.{letters_of};
+ghost use Rattle.cfb_tree.specs.CaseTableViews.{case_table_of};
 ghost use Rattle.cfb_tree.specs.Tree.{Tree};
-ghost use Rattle.msi_meaning.specs.Package.{objects, stream_name};
+ghost use Rattle.msi_spec.specs.Package.{objects, stream_name};
 ghost use Rattle.msi_tables.specs.Table.{Heading};
 ghost use Rattle.msi_parts.specs.Judged.{is_in_place as is_well_placed};
-ghost use Rattle.msi_store.specs.Placing.{is_listed_well, is_placed, HasKeys, HoldKeys};
+ghost use Rattle.msi_store.specs.Placing.{is_listed_well, is_placed, KeysMatchTables, HoldKeys};
 ghost use Rattle.msi_tables.specs.Held.{heading_of};
 ghost use Rattle.msi_texts.specs.StreamName.{is_marked};
 
@@ -43,11 +43,12 @@ pub fn are_in_place<F: ReadMedium>(
     file: &CompoundFile<F>,
     tables: &[Rc<Table>],
 ) -> Result<bool, Error>
-    ensures told { (tree : Tree) → FileHolds file.now tree → MatchResult result (λ are. IsTrue are
-        ↔ All (λ o. IsTrue (is_well_placed (letters_in file.now)
+    ensures answer { (tree : Tree) → FileHoldsTree file.now tree
+        → MatchResult result (λ are. IsTrue are
+        ↔ All (λ o. IsTrue (is_well_placed (file_case_table file.now)
         (map (λ t. heading_of (rc_value t)) tables.now) o)) (objects tree.content))
-        (IsFaultUnless ⊥) }
-    ensures cause { IfErr result (HasCauseBelow (allocator_of (mini_of file.now))
+        (IsFaultOrInvalidInputIf ⊥) }
+    ensures cause { IfErr result (IsJustifiedBySectors (allocator_of (mini_of file.now))
         (allocator_of (mini_of file.now))) }
 {
     let streams = table_streams(alloc, file.letters(), tables)?;
@@ -64,10 +65,11 @@ fn are_entries_in_place(
     streams: &TableStreams,
     entries: Entries,
 ) -> Result<bool, Error>
-    ensures ok { (headings : List Heading) → HasKeys (letters_of letters.now) headings streams.now
-        → IfOk result (λ are. are ≡ list_all (is_listed_well (letters_of letters.now) headings)
+    ensures ok { (headings : List Heading)
+        → KeysMatchTables (case_table_of letters.now) headings streams.now
+        → IfOk result (λ are. are ≡ list_all (is_listed_well (case_table_of letters.now) headings)
         (map listed_in (entries_left entries))) }
-    ensures err { IfErr result (λ e. e ≡ Memory) }
+    ensures errors { IfErr result (λ e. e ≡ Memory) }
 {
     for entry in entries {
         if !is_in_place(alloc, letters, streams, entry.name(), entry.is_storage())? {
@@ -83,9 +85,9 @@ fn table_streams(
     letters: &CaseMapper,
     tables: &[Rc<Table>],
 ) -> Result<TableStreams, Error>
-    ensures ok { IfOk result (HasKeys (letters_of letters.now)
+    ensures ok { IfOk result (KeysMatchTables (case_table_of letters.now)
         (map (λ t. heading_of (rc_value t)) tables.now)) }
-    ensures err { IfErr result (λ e. e ≡ Memory) }
+    ensures errors { IfErr result (λ e. e ≡ Memory) }
 {
     let keys = table_keys(alloc, letters, tables)?;
     let pool = encode(alloc, "_StringPool", true)?;
@@ -99,9 +101,9 @@ fn table_keys(
     letters: &CaseMapper,
     tables: &[Rc<Table>],
 ) -> Result<BTreeSet<Vec<u16>>, Error>
-    ensures ok { IfOk result (HoldKeys (letters_of letters.now)
+    ensures ok { IfOk result (HoldKeys (case_table_of letters.now)
         (map (λ h. stream_name h.name) (map (λ t. heading_of (rc_value t)) tables.now))) }
-    ensures err { IfErr result (λ e. e ≡ Memory) }
+    ensures errors { IfErr result (λ e. e ≡ Memory) }
 {
     let mut keys = BTreeSet::new(alloc);
     for table in tables {
@@ -119,10 +121,11 @@ fn is_in_place(
     name: &str,
     is_storage: bool,
 ) -> Result<bool, Error>
-    ensures ok { (headings : List Heading) → HasKeys (letters_of letters.now) headings streams.now
-        → IfOk result (λ is. is ≡ is_placed (letters_of letters.now) headings (chars name.now)
+    ensures ok { (headings : List Heading)
+        → KeysMatchTables (case_table_of letters.now) headings streams.now
+        → IfOk result (λ is. is ≡ is_placed (case_table_of letters.now) headings (chars name.now)
         is_storage) }
-    ensures err { IfErr result (λ e. e ≡ Memory) }
+    ensures errors { IfErr result (λ e. e ≡ Memory) }
 {
     let key = name_key(alloc, letters, name)?;
     let is_table = streams.keys.contains(&key);

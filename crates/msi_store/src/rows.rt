@@ -1,17 +1,17 @@
 //! The rows of tables, read from the file.
 ghost use Rattle.std.specs.Prelude.{◌≡◌, ◌⊎◌, ◌≤◌, length, IfErr, IfOk, MatchResult, None, Some};
-ghost use Rattle.cfb.specs.Streams.{FileHolds};
-ghost use Rattle.cfb.specs.Views.{letters_in, mini_of, FileRests};
-ghost use Rattle.cfb_fat.specs.Tables.{HasCauseBelow};
-ghost use Rattle.cfb_medium.specs.Calls.{IsFaultUnless};
+ghost use Rattle.cfb.specs.Streams.{FileHoldsTree};
+ghost use Rattle.cfb.specs.Views.{file_case_table, mini_of, OnlyReadsFile};
+ghost use Rattle.cfb_fat.specs.Tables.{IsJustifiedBySectors};
+ghost use Rattle.cfb_medium.specs.Calls.{IsFaultOrInvalidInputIf};
 ghost use Rattle.cfb_medium.specs.declared.error.Error.TheVariants.{InvalidData};
 ghost use Rattle.cfb_mini.specs.Views.{allocator_of};
 ghost use Rattle.cfb_tree.specs.Tree.{Tree};
-ghost use Rattle.msi_meaning.specs.Package.{stream_name};
-ghost use Rattle.msi_stored.specs.Shown.{bytes_in, HoldsShown, IsLostAt};
-ghost use Rattle.msi_stored.specs.Stored.{rows_in};
+ghost use Rattle.msi_spec.specs.Package.{stream_name};
+ghost use Rattle.msi_stored.specs.Shown.{bytes_in, StoreShowsTree, IsLostAt};
+ghost use Rattle.msi_stored.specs.StoredPackages.{rows_in};
 ghost use Rattle.msi_tables.specs.Held.{heading_of, rows_held};
-ghost use Rattle.msi_tables.specs.Rows.{AreWritable};
+ghost use Rattle.msi_tables.specs.Rows.{AreRowsWritable};
 
 use crate::bytes::table_bytes;
 use cfb::CompoundFile;
@@ -27,22 +27,24 @@ pub fn rows_of_table<F: ReadMedium>(
     file: &mut CompoundFile<F>,
     table: &Table,
 ) -> Result<Vec<Vec<ValueRef>>, Error>
-    ensures told { (tree : Tree) → FileHolds file.old tree → MatchResult result (λ rows.
-        rows_in (letters_in file.old) tree (heading_of table.now) ≡ Some (rows_held rows.items))
-        (λ e. IsFaultUnless ⊥ e ⊎ ((e ≡ InvalidData)
-        × (rows_in (letters_in file.old) tree (heading_of table.now) ≡ None))) }
-    ensures shown { (tree : Tree) → HoldsShown file.old tree → MatchResult result (λ rows.
-        rows_in (letters_in file.old) tree (heading_of table.now) ≡ Some (rows_held rows.items))
-        (λ e. IsLostAt (letters_in file.old) (bytes_in file.old)
+    ensures answer { (tree : Tree) → FileHoldsTree file.old tree → MatchResult result (λ rows.
+        rows_in (file_case_table file.old) tree (heading_of table.now) ≡ Some
+        (rows_held rows.items))
+        (λ e. IsFaultOrInvalidInputIf ⊥ e ⊎ ((e ≡ InvalidData)
+        × (rows_in (file_case_table file.old) tree (heading_of table.now) ≡ None))) }
+    ensures shown { (tree : Tree) → StoreShowsTree file.old tree → MatchResult result (λ rows.
+        rows_in (file_case_table file.old) tree (heading_of table.now) ≡ Some
+        (rows_held rows.items))
+        (λ e. IsLostAt (file_case_table file.old) (bytes_in file.old)
         (stream_name (heading_of table.now).name) e ⊎ ((e ≡ InvalidData)
-        × (rows_in (letters_in file.old) tree (heading_of table.now) ≡ None))) }
+        × (rows_in (file_case_table file.old) tree (heading_of table.now) ≡ None))) }
     ensures few { IfOk result (λ rows. length rows.items ≤ 65536) }
-    ensures shape { IfOk result (λ rows. AreWritable (heading_of table.now).long
+    ensures shape { IfOk result (λ rows. AreRowsWritable (heading_of table.now).long
         (heading_of table.now).columns (rows_held rows.items)) }
-    ensures rests { FileRests file.old file.new }
-    ensures cause { IfErr result (HasCauseBelow (allocator_of (mini_of file.old))
+    ensures only_reads { OnlyReadsFile file.old file.new }
+    ensures cause { IfErr result (IsJustifiedBySectors (allocator_of (mini_of file.old))
         (allocator_of (mini_of file.new))) }
-    ensures error { IfErr result (λ e. IsFaultUnless ⊥ e ⊎ (e ≡ InvalidData)) }
+    ensures errors { IfErr result (λ e. IsFaultOrInvalidInputIf ⊥ e ⊎ (e ≡ InvalidData)) }
 {
     match table_bytes(alloc, file, table.name()) {
         Ok(Some(bytes)) => table.read_rows(alloc, &bytes),

@@ -20,11 +20,11 @@ pub struct Store<F: ReadMedium> {
 impl<F: ReadMedium> TableSource for Store<F> {
     ghost use Rattle.msi_store.specs.Stores.{stored_in};
     ghost use Rattle.msi_stored.proofs.StoredLaws.{rests_cause, rests_keeps, rests_refl, rests_then};
-    ghost use Rattle.msi_stored.specs.Stored.{HasCause, HasTables, StoreRests};
+    ghost use Rattle.msi_stored.specs.StoredPackages.{HasCause, HasTables, OnlyReadsStore};
 
     ghost has_tables = { λ it tables. HasTables (stored_in it) tables };
 
-    ghost rests = { λ old new. StoreRests (stored_in old) (stored_in new) };
+    ghost rests = { λ old new. OnlyReadsStore (stored_in old) (stored_in new) };
 
     ghost has_cause = { λ old new e. HasCause (stored_in old) (stored_in new) e };
 

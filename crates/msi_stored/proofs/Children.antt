@@ -4,17 +4,17 @@ use Rattle.std.specs.Prelude.{◌==◌, ◌&&◌, ◌||◌, not, Option, chars, 
 use Rattle.std.specs.List.{list_all}
 use Rattle.cfb.specs.Views.{said_at}
 use Rattle.cfb_entries.specs.Rules.{answer_at, names_in}
-use Rattle.cfb_meaning.specs.TreeRules.{Object, a_storage, a_stream, has_bytes, is_stream, is_stream_found, object_at, on_stream, open_read_stream, refused, tree_step, yes}
+use Rattle.cfb_spec.specs.TreeRules.{Object, a_storage, a_stream, has_bytes, is_stream, is_stream_found, object_at, on_stream, open_read_stream, refused, tree_step, yes}
 use Rattle.cfb_medium.specs.declared.error.Error.{Error}
-use Rattle.cfb_tree.specs.Names.{Letters}
+use Rattle.cfb_tree.specs.Names.{CaseTable}
 use Rattle.cfb_tree.specs.Tree.{Tree}
-use Rattle.msi_meaning.proofs.EncodedPaths.{path_filled}
-use Rattle.msi_meaning.proofs.UnderRoot.{none_at, read_at}
-use Rattle.msi_meaning.specs.Package.{has_slash, objects, stream_at}
+use Rattle.msi_spec.proofs.EncodedPaths.{path_filled}
+use Rattle.msi_spec.proofs.UnderRoot.{none_at, read_at}
+use Rattle.msi_spec.specs.Package.{has_slash, objects, stream_at}
 use Rattle.msi_texts.specs.StreamName.{spelled_name}
 
 -- where the rules say that a stream is there, reading it isn't refused
-not_refused : (letters : Letters) (tree : Tree) (name : List ℕ) (e : Error) → yes true ≡ (tree_step letters tree (is_stream (name ∷ []))).1
+not_refused : (letters : CaseTable) (tree : Tree) (name : List ℕ) (e : Error) → yes true ≡ (tree_step letters tree (is_stream (name ∷ []))).1
     → (tree_step letters tree (open_read_stream (name ∷ []))).1 ≡ refused e → ⊥
 not_refused letters tree name e is told = by (object_at letters tree (name ∷ [])) is told
   where
@@ -24,7 +24,7 @@ not_refused letters tree name e is told = by (object_at letters tree (name ∷ [
     by (Some (a_storage key facts inside)) is told = absurd (cc)
 
 -- of a text that is a path of one name
-module _ (letters : Letters) (tree : Tree) (text name : List ℕ) (one : names_in text ≡ Some (name ∷ [])) where
+module _ (letters : CaseTable) (tree : Tree) (text name : List ℕ) (one : names_in text ≡ Some (name ∷ [])) where
   pub none_of : (b : Bool) → b ≡ false → yes b ≡ said_at letters tree is_stream (names_in text) → stream_at letters (objects tree.content) name ≡ None
   none_of b is told = none_at letters tree name (ap (λ b. yes b) (sym is) ∙ told ∙ ap (said_at letters tree is_stream) one)
 

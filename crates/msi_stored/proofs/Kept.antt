@@ -1,13 +1,13 @@
 -- Streams of pool and summary that stay hold what they held.
 use Rattle.std.proofs.Common.{◌∙◌}
-use Rattle.cfb_tree.specs.Names.{Letters}
+use Rattle.cfb_tree.specs.Names.{CaseTable}
 use Rattle.cfb_tree.specs.Tree.{Tree}
-use Rattle.msi_meaning.specs.Split.{HasPool, HasSummary}
+use Rattle.msi_spec.specs.Split.{HasPool, HasSummary}
 use Rattle.msi_pool.specs.Pool.{Pool}
 use Rattle.msi_props.specs.Props.{Props}
 use Rattle.msi_stored.specs.Changing.{KeepsParts}
 
-module _ (letters : Letters) (old new : Tree) (keeps : KeepsParts letters old new) where
+module _ (letters : CaseTable) (old new : Tree) (keeps : KeepsParts letters old new) where
   pub pool_kept : (pool : Pool) → HasPool letters old pool → HasPool letters new pool
   pool_kept pool h = record {
     pool_bytes = h.pool_bytes;

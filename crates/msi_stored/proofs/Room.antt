@@ -3,25 +3,25 @@ use Rattle.std.proofs.Common.{◌≡◌, ℕ, ◌+◌, ◌<◌, List, length, Op
 use Rattle.std.specs.Prelude.{nat_eq}
 use Rattle.std.specs.List.{count_by}
 use Rattle.cfb.specs.Putting.{IsFullAt}
-use Rattle.cfb.specs.Views.{mini_of, FileRests}
+use Rattle.cfb.specs.Views.{mini_of, OnlyReadsFile}
 use Rattle.cfb.specs.declared.compound_file.CompoundFile.{CompoundFile}
 use Rattle.cfb.proofs.LiveMeaning.{means_read}
 use Rattle.cfb_directory.specs.Entries.{HasNoneUnused}
 use Rattle.cfb_directory.specs.Growth.{LacksEntries}
-use Rattle.cfb_directory.specs.Views.{DirectoryRests}
+use Rattle.cfb_directory.specs.Views.{OnlyReadsDirectory}
 use Rattle.cfb_directory.specs.declared.directory.Directory.{Directory}
-use Rattle.cfb_meaning.specs.TreeRules.{has_bytes, open_stream, tree_step}
+use Rattle.cfb_spec.specs.TreeRules.{has_bytes, open_stream, tree_step}
 use Rattle.cfb_medium.specs.Versions.{dir_entries_per_sector, stream_len_mask}
 use Rattle.cfb_medium.specs.declared.medium.ReadMedium.{Ghosts}
 use Rattle.cfb_sectors.specs.Sectors.{free, greatest_regular}
 use Rattle.cfb_tree.specs.Directory.{greatest_entry}
-use Rattle.cfb_tree.specs.Names.{Letters}
+use Rattle.cfb_tree.specs.Names.{CaseTable}
 use Rattle.cfb_tree.specs.Paths.{Path}
-use Rattle.cfb_writing.proofs.Stretching.{lacks_resting}
+use Rattle.cfb_stream_writes.proofs.Stretching.{lacks_resting}
 use Rattle.msi_stored.specs.Room.{IsFullForName}
 
 module _ {F : Type 0} {g : Ghosts F} where
-  entries_before : (old new : Directory F g) → DirectoryRests old new → LacksEntries new → LacksEntries old
+  entries_before : (old new : Directory F g) → OnlyReadsDirectory old new → LacksEntries new → LacksEntries old
   unfolding LacksEntries
   entries_before old new r lacks = (
     subst HasNoneUnused r.entries lacks.0,
@@ -34,7 +34,7 @@ module _ {F : Type 0} {g : Ghosts F} where
     ],
   )
 
-  module _ (old new : CompoundFile F g) (r : FileRests old new) where
+  module _ (old new : CompoundFile F g) (r : OnlyReadsFile old new) where
     full_before : (path : Option Path) (len : ℕ) → IsFullAt new path len → IsFullAt old path len
     full_before path len full tree m =
         let h = full tree (means_read old new tree r m) in
@@ -42,7 +42,7 @@ module _ {F : Type 0} {g : Ghosts F} where
           names = h.names;
           at_path = h.at_path;
           content = h.content;
-          answer = subst (λ (l : Letters). (tree_step l tree (open_stream h.names)).1 ≡ has_bytes h.content) r.letters h.answer;
+          answer = subst (λ (l : CaseTable). (tree_step l tree (open_stream h.names)).1 ≡ has_bytes h.content) r.letters h.answer;
           lacks = lacks_resting (mini_of old) (mini_of new) (length h.content) len m.live.owners.memory r.mini h.lacks;
         }
 

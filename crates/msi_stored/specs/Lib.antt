@@ -2,4 +2,4 @@ pub mod Changing
 pub mod Reading
 pub mod Room
 pub mod Shown
-pub mod Stored
+pub mod StoredPackages

@@ -1,8 +1,8 @@
 -- A package for which a file lacks room: where a call that changes one may answer `Full`.
 use Rattle.std.specs.Prelude.{◌≡◌, ◌⊎◌, ◌<◌, ℕ, encode_utf8_all, false, length, IsErrOf, List, Some, Ok, Result}
-use Rattle.cfb.specs.Doing.{FileMeans}
+use Rattle.cfb.specs.FollowedRules.{FileMeansTree}
 use Rattle.cfb.specs.Putting.{IsFullAt}
-use Rattle.cfb.specs.Views.{letters_in, mini_of}
+use Rattle.cfb.specs.Views.{file_case_table, mini_of}
 use Rattle.cfb.specs.declared.compound_file.CompoundFile.{CompoundFile}
 use Rattle.cfb_directory.specs.Growth.{LacksEntries}
 use Rattle.cfb_entries.specs.Rules.{names_in}
@@ -13,8 +13,8 @@ use Rattle.cfb_medium.specs.declared.error.Error.TheVariants.{Full}
 use Rattle.cfb_medium.specs.declared.medium.ReadMedium.{Ghosts}
 use Rattle.cfb_mini.specs.Views.{allocator_of, directory_of}
 use Rattle.cfb_tree.specs.Tree.{Tree}
-use Rattle.msi_meaning.specs.Package.{stream_at, stream_name, Packed}
-use Rattle.msi_stored.specs.Changing.{PackageRule, StoresSound}
+use Rattle.msi_spec.specs.Package.{stream_at, stream_name, PackageContent}
+use Rattle.msi_stored.specs.Changing.{PackageRule, StoresSoundPackage}
 use Rattle.msi_tables.specs.Rows.{kinds_of, rows_bytes}
 use Rattle.msi_tables.specs.Table.{table_named, Table}
 
@@ -25,7 +25,7 @@ module _ {F : Type 0} {g : Ghosts F} where
   IsFullForName it name len = (stream_len_mask (version_of (allocator_of (mini_of it))) < len) ⊎ LacksEntries (directory_of (mini_of it)) ⊎ IsFullAt it (names_in (encode_utf8_all name)) len
 
   -- nor the rows of one of the package's tables, as bytes
-  pub record IsFullForTable (it : CompoundFile F g) (P : Packed) : Type 0 where
+  pub record IsFullForTable (it : CompoundFile F g) (P : PackageContent) : Type 0 where
     pub name : List ℕ
     pub table : Table
     pub there : table_named P.tables name ≡ Some table
@@ -34,19 +34,19 @@ module _ {F : Type 0} {g : Ghosts F} where
     pub lacks : IsFullForName it (stream_name name) (length bytes)
 
   -- nor one of its own streams
-  pub record IsFullForStream (it : CompoundFile F g) (P : Packed) : Type 0 where
+  pub record IsFullForStream (it : CompoundFile F g) (P : PackageContent) : Type 0 where
     pub name : List ℕ
     pub bytes : List ℕ
-    pub there : stream_at (letters_in it) P.streams name ≡ Some bytes
+    pub there : stream_at (file_case_table it) P.streams name ≡ Some bytes
     pub lacks : IsFullForName it name (length bytes)
 
   -- the file lacks room for the package that the rule gives
-  pub record IsFullForRule (rule : PackageRule) (it : CompoundFile F g) (P : Packed) : Type 0 where
-    pub next : Packed
+  pub record IsFullForRule (rule : PackageRule) (it : CompoundFile F g) (P : PackageContent) : Type 0 where
+    pub next : PackageContent
     pub answered : rule P next (Ok tt)
     pub lacks : IsFullForTable it next ⊎ IsFullForStream it next
 
   -- of `ChangesBy`: `Full` comes only where the file lacks room so, or has failed
   abbrev pub FillsBy : {T : Type 0} → PackageRule → Result T Error → CompoundFile F g → CompoundFile F g → Type 0
   FillsBy rule result old new = IsErrOf result Full → has_failed_here (allocator_of (mini_of new)) ≡ false
-      → (tree : Tree) (P : Packed) → FileMeans old tree → StoresSound (letters_in old) tree P → IsFullForRule rule old P
+      → (tree : Tree) (P : PackageContent) → FileMeansTree old tree → StoresSoundPackage (file_case_table old) tree P → IsFullForRule rule old P

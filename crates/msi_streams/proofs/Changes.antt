@@ -6,14 +6,14 @@ use Rattle.std.specs.Ordering.{is_lt}
 use Rattle.std.proofs.lemmas.List.Elements.{All-cons, All-filter, All-head, All-nil, All-tail}
 use Rattle.cfb_tree.specs.Changes.{added, changed, removed}
 use Rattle.cfb_tree.specs.Changes.{with_bytes as with_content}
-use Rattle.cfb_tree.specs.Names.{Letters, name_cmp}
+use Rattle.cfb_tree.specs.Names.{CaseTable, name_cmp}
 use Rattle.cfb_tree.specs.Objects.{a_storage, a_stream, is_same_name, name_of, Object}
 use Rattle.cfb_tree.specs.Tree.{child_names, Tree}
-use Rattle.msi_meaning.specs.Opening.{may_use}
-use Rattle.msi_meaning.specs.Package.{Packed, at_name, is_stream, object_bytes, objects, stream_at, summary_name}
-use Rattle.msi_meaning.specs.Streams.{stream_put, with_bytes, without_stream}
-use Rattle.msi_meaning.proofs.Roots.{put_new, put_there}
-use Rattle.msi_meaning.proofs.UnderRoot.{child_is}
+use Rattle.msi_spec.specs.Opening.{keeps_encoded_names}
+use Rattle.msi_spec.specs.Package.{PackageContent, at_name, is_stream, object_bytes, objects, stream_at, summary_name}
+use Rattle.msi_spec.specs.Streams.{stream_put, with_bytes, without_stream}
+use Rattle.msi_spec.proofs.Roots.{put_new, put_there}
+use Rattle.msi_spec.proofs.UnderRoot.{child_is}
 use Rattle.msi_texts.specs.StreamName.{is_marked}
 use Rattle.msi_streams.proofs.Marks.{same_of_key}
 use Rattle.msi_streams.proofs.Objects.{found_kept, has_name, names_of, none_kept, objects_without, put_apart, put_kept, put_storages, taken_apart, taken_dropped, taken_kept, taken_none, without_first}
@@ -26,7 +26,7 @@ IsUnmarked o = IsTrue (not (is_marked (name_of o)))
 some_same : (a b : Object) → Some a ≡ Some b → a ≡ b
 some_same a b e = cc
 
-module _ (letters : Letters) (name : List ℕ) where
+module _ (letters : CaseTable) (name : List ℕ) where
   -- one that is put among streams of no table
   pub put_unmarked : (bytes : List ℕ) → is_marked name ≡ false → (os : List Object) → All IsUnmarked os → All IsUnmarked (stream_put letters name bytes os)
   put_unmarked bytes plain [] all = All-cons IsUnmarked (a_stream name 0 bytes) [] (ap not plain) (All-nil IsUnmarked)
@@ -69,7 +69,7 @@ module _ (letters : Letters) (name : List ℕ) where
       }
 
       -- the package has it among its streams
-      pub put_streams : (may : may_use letters ≡ true) (plain : is_marked name ≡ false) (other : is_same_name letters summary_name name ≡ false) (P : Packed) (bytes : List ℕ)
+      pub put_streams : (may : keeps_encoded_names letters ≡ true) (plain : is_marked name ≡ false) (other : is_same_name letters summary_name name ≡ false) (P : PackageContent) (bytes : List ℕ)
           → objects new.content ≡ stream_put letters name bytes (objects old.content) → ((o : Object) → at_name letters (objects old.content) name ≡ Some o → is_stream o ≡ true)
           → P.streams ≡ filter (is_kept letters P) (objects old.content) → stream_put letters name bytes P.streams ≡ filter (is_kept letters P) (objects new.content)
       put_streams may plain other P bytes is streams stored =
@@ -90,7 +90,7 @@ module _ (letters : Letters) (name : List ℕ) where
         storages = ap (filter (λ o. not (is_stream o))) is ∙ taken_dropped letters name (λ o. not (is_stream o)) (objects old.content) o there (ap not stream_there);
       }
 
-      pub taken_streams : (P : Packed) → P.streams ≡ filter (is_kept letters P) (objects old.content) → without_stream letters name P.streams ≡ filter (is_kept letters P) (objects new.content)
+      pub taken_streams : (P : PackageContent) → P.streams ≡ filter (is_kept letters P) (objects old.content) → without_stream letters name P.streams ≡ filter (is_kept letters P) (objects new.content)
       taken_streams P stored =
           ap (without_stream letters name) stored ∙ taken_kept letters name (is_kept letters P) (objects old.content) names_rise ∙ ap (filter (is_kept letters P)) (sym is)
 

@@ -1,32 +1,32 @@
 -- What a call did to the package of a file, at each of its exits.
 use Rattle.std.proofs.Common.{◌≡◌, ◌∙◌, true, false, Some, Option, inl, inr, refl, sym, ap, subst, ⊎_elim}
 use Rattle.std.specs.Prelude.{◌⊎◌, Err, Ok, Result}
-use Rattle.cfb.specs.Doing.{Does, FileKeeps, FileMeans}
+use Rattle.cfb.specs.FollowedRules.{FollowsTreeRules, FileKeeps, FileMeansTree}
 use Rattle.cfb.specs.Putting.{answer_by, KeepsMeant, FilePuts, Rule}
-use Rattle.cfb.specs.Views.{letters_in, mini_of, sound_of}
+use Rattle.cfb.specs.Views.{file_case_table, mini_of, sound_of}
 use Rattle.cfb.specs.declared.compound_file.CompoundFile.{CompoundFile}
 use Rattle.cfb.proofs.LiveMeaning.{means_kept}
 use Rattle.cfb_entries.specs.Rules.{answer_at}
 use Rattle.cfb_fat.specs.Tables.{has_failed_here}
-use Rattle.cfb_meaning.specs.TreeRules.{done, refused, tree_step, Call, Outcome}
+use Rattle.cfb_spec.specs.TreeRules.{done, refused, tree_step, Call, Outcome}
 use Rattle.cfb_medium.specs.declared.error.Error.{Error}
 use Rattle.cfb_medium.specs.declared.error.Error.TheVariants.{Failed, InvalidData}
 use Rattle.cfb_medium.specs.declared.medium.ReadMedium.{Ghosts}
 use Rattle.cfb_mini.specs.Views.{allocator_of}
-use Rattle.cfb_tree.specs.Names.{Letters}
+use Rattle.cfb_tree.specs.Names.{CaseTable}
 use Rattle.cfb_tree.specs.Paths.{Path}
 use Rattle.cfb_tree.specs.Tree.{Tree}
 use Rattle.cfb_tree.proofs.OneContent.{Some_same}
-use Rattle.msi_meaning.specs.Package.{Packed}
-use Rattle.msi_stored.specs.Changing.{ChangesBy, KeepsParts, PackageRule, StoresSound}
+use Rattle.msi_spec.specs.Package.{PackageContent}
+use Rattle.msi_stored.specs.Changing.{ChangesStoredPackage, KeepsParts, PackageRule, StoresSoundPackage}
 
 -- the rule on trees accepts, with a tree that stores what the rule on packages gives
-pub record Accepts (rule : PackageRule) (letters : Letters) (tree : Tree) (P : Packed) (outcome : Outcome) : Type 0 where
+pub record Accepts (rule : PackageRule) (letters : CaseTable) (tree : Tree) (P : PackageContent) (outcome : Outcome) : Type 0 where
   pub after : Tree
   pub is : outcome ≡ (after, done)
-  pub next : Packed
+  pub next : PackageContent
   pub answered : rule P next (Ok tt)
-  pub stores : StoresSound letters after next
+  pub stores : StoresSoundPackage letters after next
   pub keeps : KeepsParts letters tree after
 
 module _ {F : Type 0} {g : Ghosts F} where
@@ -44,7 +44,7 @@ module _ {F : Type 0} {g : Ghosts F} where
 
   -- a rule on the directory is one on trees, at the path of a text
   pub does_puts : (call : Path → Call) (path : Option Path) (names : Path) → path ≡ Some names → (old new : CompoundFile F g) (r : Result (Unit {0}) Error)
-      → Does path call r old new → FilePuts (λ letters tree path. tree_step letters tree (call path)) path r old new
+      → FollowsTreeRules path call r old new → FilePuts (λ letters tree path. tree_step letters tree (call path)) path r old new
   does_puts call path names at old new (Ok x) d = record {
     failed = d.failed;
     unsound = λ live unsound. (d.unsound live unsound).0;
@@ -65,14 +65,14 @@ module _ {F : Type 0} {g : Ghosts F} where
       keeps : FileKeeps old new → KeepsMeant old new
       keeps k = record { means = λ tree m. means_kept old new tree k m }
 
-      turned : (tree : Tree) → answer_at (letters_in old) tree call path ≡ refused e → answer_by (λ letters tree path. tree_step letters tree (call path)) (letters_in old) tree path ≡ refused e
+      turned : (tree : Tree) → answer_at (file_case_table old) tree call path ≡ refused e → answer_by (λ letters tree path. tree_step letters tree (call path)) (file_case_table old) tree path ≡ refused e
       turned tree told =
-          ap (answer_by (λ letters tree path. tree_step letters tree (call path)) (letters_in old) tree) at
-          ∙ sym (ap (answer_at (letters_in old) tree call) at) ∙ told
+          ap (answer_by (λ letters tree path. tree_step letters tree (call path)) (file_case_table old) tree) at
+          ∙ sym (ap (answer_at (file_case_table old) tree call) at) ∙ told
 
   module _ (rule : PackageRule) (old : CompoundFile F g) where
     -- failed, or not sound
-    pub first_refused : (e : Error) → IsFirst old e → ChangesBy {T = Unit {0}} rule (Err e) old old
+    pub first_refused : (e : Error) → IsFirst old e → ChangesStoredPackage {T = Unit {0}} rule (Err e) old old
     first_refused e (inl failed) = record {
       failed = λ before. ap (λ e. Err e) failed.0;
       unsound = λ live unsound. let never : true ≡ false = sym failed.1 ∙ live in absurd (cc);
@@ -98,7 +98,7 @@ module _ {F : Type 0} {g : Ghosts F} where
       was_sound unsound = let never : true ≡ false = sym open_file.1 ∙ unsound in absurd (cc)
 
       -- a refusal by rule, and nothing was changed
-      pub rule_refused : (e : Error) → ((tree : Tree) (P : Packed) → FileMeans old tree → StoresSound (letters_in old) tree P → rule P P (Err e)) → ChangesBy {T = Unit {0}} rule (Err e) old old
+      pub rule_refused : (e : Error) → ((tree : Tree) (P : PackageContent) → FileMeansTree old tree → StoresSoundPackage (file_case_table old) tree P → rule P P (Err e)) → ChangesStoredPackage {T = Unit {0}} rule (Err e) old old
       rule_refused e refuses = record {
         failed = λ failed. was_live failed;
         unsound = λ live unsound. was_sound unsound;
@@ -109,7 +109,7 @@ module _ {F : Type 0} {g : Ghosts F} where
       }
 
       -- nothing had to be changed
-      pub rule_rests : ((tree : Tree) (P : Packed) → FileMeans old tree → StoresSound (letters_in old) tree P → rule P P (Ok tt)) → ChangesBy {T = Unit {0}} rule (Ok tt) old old
+      pub rule_rests : ((tree : Tree) (P : PackageContent) → FileMeansTree old tree → StoresSoundPackage (file_case_table old) tree P → rule P P (Ok tt)) → ChangesStoredPackage {T = Unit {0}} rule (Ok tt) old old
       rule_rests accepts = record {
         failed = λ failed. was_live failed;
         unsound = λ live unsound. was_sound unsound;
@@ -121,7 +121,7 @@ module _ {F : Type 0} {g : Ghosts F} where
 
     -- one call on the container, which the rule on trees accepts
     pub rule_done : (on_trees : Rule) (path : Option Path) (names : Path) → path ≡ Some names → (new : CompoundFile F g) (r : Result (Unit {0}) Error) → FilePuts on_trees path r old new
-        → ((tree : Tree) (P : Packed) → FileMeans old tree → StoresSound (letters_in old) tree P → Accepts rule (letters_in old) tree P (on_trees (letters_in old) tree names)) → ChangesBy rule r old new
+        → ((tree : Tree) (P : PackageContent) → FileMeansTree old tree → StoresSoundPackage (file_case_table old) tree P → Accepts rule (file_case_table old) tree P (on_trees (file_case_table old) tree names)) → ChangesStoredPackage rule r old new
     rule_done on_trees path names at new (Ok x) p accepts = record {
       failed = p.failed;
       unsound = p.unsound;
@@ -129,8 +129,8 @@ module _ {F : Type 0} {g : Ghosts F} where
           let a = accepts tree P m s in
           let d = p.done tree m in
           let same : d.names ≡ names = Some_same (sym d.at_path ∙ at) in
-          let is : (on_trees (letters_in old) tree d.names).0 ≡ a.after = ap (λ (o : Outcome). o.0) (ap (on_trees (letters_in old) tree) same ∙ a.is) in
-          record { next = a.next; after = a.after; answered = a.answered; means = subst (FileMeans new) is d.means; stores = a.stores; keeps = a.keeps };
+          let is : (on_trees (file_case_table old) tree d.names).0 ≡ a.after = ap (λ (o : Outcome). o.0) (ap (on_trees (file_case_table old) tree) same ∙ a.is) in
+          record { next = a.next; after = a.after; answered = a.answered; means = subst (FileMeansTree new) is d.means; stores = a.stores; keeps = a.keeps };
       refused = tt;
       rests = tt;
       seen = p.seen;
@@ -142,7 +142,7 @@ module _ {F : Type 0} {g : Ghosts F} where
       refused = λ tree P m s. ⊎_elim (λ fault. inl fault)
           (λ told.
           let a = accepts tree P m s in
-          let never : done ≡ refused e = sym (ap (λ (o : Outcome). o.1) a.is) ∙ sym (ap (answer_by on_trees (letters_in old) tree) at) ∙ told.0 in absurd (cc))
+          let never : done ≡ refused e = sym (ap (λ (o : Outcome). o.1) a.is) ∙ sym (ap (answer_by on_trees (file_case_table old) tree) at) ∙ told.0 in absurd (cc))
           (p.refused tree m);
       rests = p.rests;
       seen = p.seen;

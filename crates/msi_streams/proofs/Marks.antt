@@ -5,9 +5,9 @@ use Rattle.std.specs.Char.Escape.{encode_utf16}
 use Rattle.std.specs.List.{flat_map}
 use Rattle.std.proofs.lemmas.Bool.{and_parts}
 use Rattle.cfb_tree.proofs.NameOrder.{name_cmp_equal}
-use Rattle.cfb_tree.specs.Names.{Letters, letter, name_key}
+use Rattle.cfb_tree.specs.Names.{CaseTable, letter, name_key}
 use Rattle.cfb_tree.specs.Objects.{is_same_name}
-use Rattle.msi_meaning.specs.Opening.{is_encoded, may_use}
+use Rattle.msi_spec.specs.Opening.{is_encoded, keeps_encoded_names}
 use Rattle.msi_texts.specs.StreamName.{is_marked, pair, table_prefix}
 use Rattle.std.specs.Ordering.{is_eq}
 use Rattle.std.specs.declared.cmp.Ordering.{Ordering}
@@ -19,7 +19,7 @@ equal_of Less e = absurd (cc)
 equal_of Greater e = absurd (cc)
 
 -- names are one where their keys are
-module _ (letters : Letters) (a b : List ℕ) where
+module _ (letters : CaseTable) (a b : List ℕ) where
   pub key_of_same : is_same_name letters a b ≡ true → name_key letters a ≡ name_key letters b
   key_of_same e = (name_cmp_equal letters a b).0 (equal_of _ e)
 
@@ -29,11 +29,11 @@ module _ (letters : Letters) (a b : List ℕ) where
 -- ---- letters
 
 -- an encoded character counts as itself
-letter_kept : (letters : Letters) → may_use letters ≡ true → (c : ℕ) → is_encoded c ≡ true → letter letters c ≡ c
+letter_kept : (letters : CaseTable) → keeps_encoded_names letters ≡ true → (c : ℕ) → is_encoded c ≡ true → letter letters c ≡ c
 unfolding letter
 letter_kept [] may c is = refl
 letter_kept (pair ∷ pairs) may c is =
-    let both = and_parts (not (is_encoded pair.0) && not (is_encoded pair.1)) (may_use pairs) may in
+    let both = and_parts (not (is_encoded pair.0) && not (is_encoded pair.1)) (keeps_encoded_names pairs) may in
     let first = and_parts (not (is_encoded pair.0)) (not (is_encoded pair.1)) both.0 in
     by (eqb c pair.0) refl first.0 (letter_kept pairs both.1 c is)
   where
@@ -42,11 +42,11 @@ letter_kept (pair ∷ pairs) may c is =
     by false e out later = later
 
 -- and no other character counts as it
-letter_back : (letters : Letters) → may_use letters ≡ true → (c : ℕ) → is_encoded (letter letters c) ≡ true → letter letters c ≡ c
+letter_back : (letters : CaseTable) → keeps_encoded_names letters ≡ true → (c : ℕ) → is_encoded (letter letters c) ≡ true → letter letters c ≡ c
 unfolding letter
 letter_back [] may c is = refl
 letter_back (pair ∷ pairs) may c is =
-    let both = and_parts (not (is_encoded pair.0) && not (is_encoded pair.1)) (may_use pairs) may in
+    let both = and_parts (not (is_encoded pair.0) && not (is_encoded pair.1)) (keeps_encoded_names pairs) may in
     let first = and_parts (not (is_encoded pair.0)) (not (is_encoded pair.1)) both.0 in
     by (eqb c pair.0) first.1 (letter_back pairs both.1 c) is
   where
@@ -72,7 +72,7 @@ mark_of_unit c rest e = by (ltb c 0x1_0000) e
     by false e = absurd (omega (arith, e))
 
 -- a name that is one with a marked one is marked
-pub marked_alike : (letters : Letters) → may_use letters ≡ true → (a b : List ℕ) → is_marked a ≡ true → is_same_name letters a b ≡ true → is_marked b ≡ true
+pub marked_alike : (letters : CaseTable) → keeps_encoded_names letters ≡ true → (a b : List ℕ) → is_marked a ≡ true → is_same_name letters a b ≡ true → is_marked b ≡ true
 unfolding name_key
 marked_alike letters may [] b marked same = absurd (cc)
 marked_alike letters may (c ∷ cs) b marked same = by b (sym unit ∙ ap first_unit (key_of_same letters (c ∷ cs) b same))

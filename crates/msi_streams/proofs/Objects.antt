@@ -8,12 +8,12 @@ use Rattle.std.specs.declared.cmp.Ordering.{Ordering}
 use Rattle.std.specs.declared.cmp.Ordering.TheVariants.{Equal, Greater, Less}
 use Rattle.std.proofs.lemmas.Map.Keys.{sorted_head, sorted_tail}
 use Rattle.cfb_tree.specs.Changes.{without_child}
-use Rattle.cfb_tree.specs.Names.{Letters, key_cmp, name_cmp, name_key}
+use Rattle.cfb_tree.specs.Names.{CaseTable, key_cmp, name_cmp, name_key}
 use Rattle.cfb_tree.specs.Objects.{a_storage, a_stream, is_same_name, name_of, Object}
 use Rattle.cfb_tree.proofs.NameOrder.{name_cmp_total}
 use Rattle.cfb_tree.specs.Tree.{child_names, nothing, storage, stream, Content}
-use Rattle.msi_meaning.specs.Package.{at_name, is_stream, objects}
-use Rattle.msi_meaning.specs.Streams.{stream_put, with_bytes, without_stream}
+use Rattle.msi_spec.specs.Package.{at_name, is_stream, objects}
+use Rattle.msi_spec.specs.Streams.{stream_put, with_bytes, without_stream}
 use Rattle.msi_streams.proofs.Marks.{key_of_same}
 
 less_is : (o : Ordering) → is_lt o ≡ true → o ≡ Less
@@ -36,7 +36,7 @@ names_of nothing = refl
 names_of (stream n s b l) = ap (λ ns. n ∷ ns) (names_of l)
 names_of (storage n f i l) = ap (λ ns. n ∷ ns) (names_of l)
 
-module _ (letters : Letters) where
+module _ (letters : CaseTable) where
   -- a name is another than those above its own
   above_differ : (name key other : List ℕ) → is_same_name letters name key ≡ true → name_cmp letters key other ≡ Less → is_same_name letters name other ≡ false
   above_differ name key other same below = ap (λ k. is_eq (key_cmp k (name_key letters other))) (key_of_same letters name key same) ∙ not_equal _ below

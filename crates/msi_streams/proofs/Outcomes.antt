@@ -3,26 +3,26 @@ use Rattle.std.proofs.Common.{◌≡◌, ◌∙◌, ℕ, true, false, cond, List
 use Rattle.std.specs.Prelude.{filter, All, Ok}
 use Rattle.std.specs.List.Sorted.{IsStrictlySortedBy}
 use Rattle.cfb.specs.Putting.{put_over, putting}
-use Rattle.cfb_meaning.specs.TreeRules.{done, on_stream, refused, remove_stream, tree_step, Outcome}
+use Rattle.cfb_spec.specs.TreeRules.{done, on_stream, refused, remove_stream, tree_step, Outcome}
 use Rattle.cfb_medium.specs.declared.error.Error.TheVariants.{InvalidInput}
 use Rattle.cfb_tree.specs.Changes.{added, changed, removed}
 use Rattle.cfb_tree.specs.Changes.{with_bytes as with_content}
-use Rattle.cfb_tree.specs.Names.{Letters, is_name, name_cmp}
+use Rattle.cfb_tree.specs.Names.{CaseTable, is_name, name_cmp}
 use Rattle.cfb_tree.specs.Objects.{a_storage, a_stream, is_same_name, Object}
 use Rattle.cfb_tree.specs.Tree.{child_names, Tree}
-use Rattle.msi_meaning.specs.Package.{Packed, at_name, is_stream, objects, summary_name}
-use Rattle.msi_meaning.specs.Streams.{stream_put, without_stream}
-use Rattle.msi_meaning.proofs.UnderRoot.{at_path}
-use Rattle.msi_stored.specs.Changing.{PackageRule, StoresSound}
+use Rattle.msi_spec.specs.Package.{PackageContent, at_name, is_stream, objects, summary_name}
+use Rattle.msi_spec.specs.Streams.{stream_put, without_stream}
+use Rattle.msi_spec.proofs.UnderRoot.{at_path}
+use Rattle.msi_stored.specs.Changing.{PackageRule, StoresSoundPackage}
 use Rattle.msi_texts.specs.StreamName.{is_marked}
 use Rattle.msi_streams.proofs.Changes.{put_differs, put_streams, put_unmarked, put_where_none, put_where_one, taken_differs, taken_from, taken_streams, taken_unmarked, IsUnmarked}
 use Rattle.msi_streams.proofs.Exits.{Accepts}
 use Rattle.msi_streams.proofs.Stored.{is_kept, named_yet, parts_yet, stores_yet, Differs}
 
-module _ (letters : Letters) (tree : Tree) (name : List ℕ) (rising : IsStrictlySortedBy (name_cmp letters) (child_names tree.content)) (P : Packed) (s : StoresSound letters tree P)
+module _ (letters : CaseTable) (tree : Tree) (name : List ℕ) (rising : IsStrictlySortedBy (name_cmp letters) (child_names tree.content)) (P : PackageContent) (s : StoresSoundPackage letters tree P)
     (plain : is_marked name ≡ false) (other : is_same_name letters summary_name name ≡ false) where
   sound_yet : (new : Tree) → Differs letters name tree new → (streams : List Object) → streams ≡ filter (is_kept letters P) (objects new.content) → All IsUnmarked streams
-      → StoresSound letters new (record P { streams = streams })
+      → StoresSoundPackage letters new (record P { streams = streams })
   sound_yet new d streams is unmarked = record {
     usable = s.usable;
     stores = stores_yet letters s.usable name plain other tree new d P streams s.stores is;

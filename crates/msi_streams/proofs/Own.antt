@@ -4,17 +4,17 @@ use Rattle.std.specs.Prelude.{◌&&◌, ◌||◌, not, bytes_eq, filter, option_
 use Rattle.std.specs.List.{list_any}
 use Rattle.std.specs.Ordering.{is_eq}
 use Rattle.std.proofs.lemmas.Bool.{and_parts}
-use Rattle.cfb_tree.specs.Names.{Letters, key_cmp, name_key}
+use Rattle.cfb_tree.specs.Names.{CaseTable, key_cmp, name_key}
 use Rattle.cfb_tree.specs.Objects.{a_stream, is_same_name, name_of, Object}
 use Rattle.cfb_tree.specs.Tree.{Tree}
 use Rattle.msi_columns.specs.Column.{Column}
-use Rattle.msi_meaning.specs.Opening.{may_use}
-use Rattle.msi_meaning.specs.Package.{Packed, at_name, data_name, has_slash, is_own, is_stream, object_bytes, objects, pool_name, stream_at, stream_name, summary_name, table_stream}
-use Rattle.msi_meaning.specs.Sound.{is_free_table_name}
-use Rattle.msi_meaning.specs.Split.{Stores}
-use Rattle.msi_meaning.specs.Streams.{stream_put, IsDropped}
-use Rattle.msi_meaning.proofs.EncodedKeys.{keys_tell, name_encoded, one_table}
-use Rattle.msi_meaning.proofs.Roots.{put_dropped, put_found}
+use Rattle.msi_spec.specs.Opening.{keeps_encoded_names}
+use Rattle.msi_spec.specs.Package.{PackageContent, at_name, data_name, has_slash, is_own, is_stream, object_bytes, objects, pool_name, stream_at, stream_name, summary_name, table_stream}
+use Rattle.msi_spec.specs.Sound.{is_free_table_name}
+use Rattle.msi_spec.specs.Split.{TreeStoresRest}
+use Rattle.msi_spec.specs.Streams.{stream_put, IsDropped}
+use Rattle.msi_spec.proofs.EncodedKeys.{keys_tell, name_encoded, one_table}
+use Rattle.msi_spec.proofs.Roots.{put_dropped, put_found}
 use Rattle.msi_tables.specs.Rows.{Row, kinds_of, rows_of}
 use Rattle.msi_tables.specs.Schema.{validation_columns, validation_name}
 use Rattle.msi_texts.specs.Category.{is_identifier}
@@ -25,7 +25,7 @@ use Rattle.msi_streams.proofs.Objects.{put_apart, put_storages}
 use Rattle.msi_streams.proofs.Stored.{is_kept, marked_differs, not_true}
 
 -- the root's objects with these bytes at a name, where no storage stood
-pub record IsPut (letters : Letters) (name bytes : List ℕ) (old new : Tree) : Type 0 where
+pub record IsPut (letters : CaseTable) (name bytes : List ℕ) (old new : Tree) : Type 0 where
   pub root : new.root ≡ old.root
   pub put : objects new.content ≡ stream_put letters name bytes (objects old.content)
   pub streams : (o : Object) → at_name letters (objects old.content) name ≡ Some o → is_stream o ≡ true
@@ -47,13 +47,13 @@ is_false : (b : Bool) → not b ≡ true → b ≡ false
 is_false true e = absurd (cc)
 is_false false e = refl
 
-module _ (letters : Letters) (may : may_use letters ≡ true) where
+module _ (letters : CaseTable) (may : keeps_encoded_names letters ≡ true) where
   tables_apart : (a b : List ℕ) → is_identifier a ≡ true → is_identifier b ≡ true → (a ≡ b → ⊥) → is_same_name letters (stream_name a) (stream_name b) ≡ false
   tables_apart a b one other differ = not_true (is_same_name letters (stream_name a) (stream_name b)) (λ same.
       differ (one_table a b one other (keys_tell letters (stream_name a) (stream_name b) may (name_encoded a one) (key_of_same letters (stream_name a) (stream_name b) same))))
 
   -- a name of the database itself, which no table has
-  pub record IsApart (P : Packed) (name : List ℕ) : Type 0 where
+  pub record IsApart (P : PackageContent) (name : List ℕ) : Type 0 where
     pub own : is_own letters P (a_stream name 0 []) ≡ true
     pub tables : All (λ t. is_same_name letters (stream_name t.name) name ≡ false) P.tables
     pub validation : is_same_name letters (stream_name validation_name) name ≡ false
@@ -61,7 +61,7 @@ module _ (letters : Letters) (may : may_use letters ≡ true) where
   self : (name : List ℕ) → is_same_name letters name name ≡ true
   self name = same_of_key letters name name refl
 
-  module _ (P : Packed) (free : All (λ t. IsTrue (is_free_table_name t.name)) P.tables) where
+  module _ (P : PackageContent) (free : All (λ t. IsTrue (is_free_table_name t.name)) P.tables) where
     parts : (name : List ℕ) → is_free_table_name name ≡ true → (is_identifier name ≡ true) × (bytes_eq name pool_name ≡ false) × (bytes_eq name data_name ≡ false)
     parts name is =
         let outer = and_parts ((is_identifier name && is_valid_name true (chars name)) && not (bytes_eq name pool_name)) (not (bytes_eq name data_name)) is in
@@ -116,7 +116,7 @@ module _ (letters : Letters) (may : may_use letters ≡ true) where
     abbrev read_by : Bool → List Column → Option (List ℕ) → Option (List Row)
     read_by long columns bytes = rows_of long (kinds_of columns) (unwrap_or bytes [])
 
-    pub own_stores : (P : Packed) → IsApart P name → Stores letters old P → Stores letters new P
+    pub own_stores : (P : PackageContent) → IsApart P name → TreeStoresRest letters old P → TreeStoresRest letters new P
     own_stores P apart s = record {
       class = ap (λ r. r.clsid) is.root ∙ s.class;
       rising = s.rising;
@@ -147,9 +147,9 @@ module _ (letters : Letters) (may : may_use letters ≡ true) where
 
   -- ---- the three, one after the other
 
-  module _ (P : Packed) (free : All (λ t. IsTrue (is_free_table_name t.name)) P.tables) (summary pool rest : List ℕ) (t0 t1 t2 t3 : Tree)
+  module _ (P : PackageContent) (free : All (λ t. IsTrue (is_free_table_name t.name)) P.tables) (summary pool rest : List ℕ) (t0 t1 t2 t3 : Tree)
       (one : IsPut letters summary_name summary t0 t1) (two : IsPut letters (stream_name pool_name) pool t1 t2) (three : IsPut letters (stream_name data_name) rest t2 t3) where
-    pub parts_stored : Stores letters t0 P → Stores letters t3 P
+    pub parts_stored : TreeStoresRest letters t0 P → TreeStoresRest letters t3 P
     parts_stored s =
         own_stores (stream_name data_name) rest t2 t3 three P (data_apart P free)
         (own_stores (stream_name pool_name) pool t1 t2 two P (pool_apart P free) (own_stores summary_name summary t0 t1 one P (summary_apart P free) s))

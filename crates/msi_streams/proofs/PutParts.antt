@@ -3,28 +3,28 @@ use Rattle.std.proofs.Common.{◌≡◌, ◌∙◌, ℕ, Bool, true, false, cond
 use Rattle.std.specs.Prelude.{option_and_then, Err, Ok}
 use Rattle.std.specs.Str.{chars}
 use Rattle.std.specs.List.Sorted.{IsStrictlySortedBy}
-use Rattle.cfb.specs.Doing.{FileMeans}
+use Rattle.cfb.specs.FollowedRules.{FileMeansTree}
 use Rattle.cfb.specs.Putting.{answer_by, put_over, putting, FilePuts}
-use Rattle.cfb.specs.Views.{letters_in, mini_of, sound_of, validation_of}
+use Rattle.cfb.specs.Views.{file_case_table, mini_of, sound_of, validation_of}
 use Rattle.cfb.specs.declared.compound_file.CompoundFile.{CompoundFile}
 use Rattle.cfb.proofs.PutStreams.{means_shown}
 use Rattle.cfb_fat.specs.Tables.{has_failed_here}
-use Rattle.cfb_live.specs.Doing.{IsFault}
-use Rattle.cfb_medium.specs.Calls.{IsFaultUnless}
-use Rattle.cfb_meaning.specs.TreeRules.{done, refused, Outcome}
+use Rattle.cfb_tree_edits.specs.LiveTreeRules.{IsFaultOrFull}
+use Rattle.cfb_medium.specs.Calls.{IsFaultOrInvalidInputIf}
+use Rattle.cfb_spec.specs.TreeRules.{done, refused, Outcome}
 use Rattle.cfb_medium.specs.declared.error.Error.{Error}
 use Rattle.cfb_medium.specs.declared.error.Error.TheVariants.{InvalidInput, Memory}
 use Rattle.cfb_medium.specs.declared.medium.ReadMedium.{Ghosts}
 use Rattle.cfb_mini.specs.Views.{allocator_of}
 use Rattle.cfb_tree.specs.Changes.{added}
-use Rattle.cfb_tree.specs.Names.{Letters, is_name, name_cmp}
+use Rattle.cfb_tree.specs.Names.{CaseTable, is_name, name_cmp}
 use Rattle.cfb_tree.specs.Objects.{a_storage, a_stream, Object}
 use Rattle.cfb_tree.specs.Paths.{Path}
 use Rattle.cfb_tree.specs.Tree.{child_names, Tree}
 use Rattle.cfb_tree.proofs.OneContent.{Some_same}
-use Rattle.msi_meaning.specs.Package.{at_name, data_name, is_stream, object_bytes, objects, pool_name, stream_at, stream_name, summary_name}
-use Rattle.msi_meaning.proofs.UnderRoot.{at_path}
-use Rattle.msi_streams.specs.Parts.{CanHaveThree, HasNoStorageAt, HasThree, OfPackage, PartBytes, PutsParts}
+use Rattle.msi_spec.specs.Package.{at_name, data_name, is_stream, object_bytes, objects, pool_name, stream_at, stream_name, summary_name}
+use Rattle.msi_spec.proofs.UnderRoot.{at_path}
+use Rattle.msi_streams.specs.Parts.{CanHaveThree, HasNoStorageAt, HasThree, OfPackage, PartBytes, WritesPackageParts}
 use Rattle.msi_streams.proofs.Changes.{put_where_none, put_where_one}
 use Rattle.msi_streams.proofs.Exits.{keeps_meant, IsFirst, IsOpen}
 use Rattle.msi_streams.proofs.Own.{data_not_pool, data_not_summary, data_there, open_yet, parts_stored, pool_not_summary, pool_there, summary_there, IsPut}
@@ -32,11 +32,11 @@ use Rattle.msi_streams.proofs.Own.{data_not_pool, data_not_summary, data_there, 
 some_same : (a b : Object) → Some a ≡ Some b → a ≡ b
 some_same a b e = cc
 
-pub memory_fault : (e : Error) → e ≡ Memory → IsFault e
-memory_fault e is = inl (subst (IsFaultUnless ⊥) (sym is) tt)
+pub memory_fault : (e : Error) → e ≡ Memory → IsFaultOrFull e
+memory_fault e is = inl (subst (IsFaultOrInvalidInputIf ⊥) (sym is) tt)
 
 -- what the rule makes of the root's objects where it accepts
-module _ (letters : Letters) (tree : Tree) (name bytes : List ℕ) (rising : IsStrictlySortedBy (name_cmp letters) (child_names tree.content)) where
+module _ (letters : CaseTable) (tree : Tree) (name bytes : List ℕ) (rising : IsStrictlySortedBy (name_cmp letters) (child_names tree.content)) where
   pub shape : (putting bytes letters tree (name ∷ [])).1 ≡ done → IsPut letters name bytes tree (putting bytes letters tree (name ∷ [])).0
   shape accepted = by (at_name letters (objects tree.content) name) refl
     where
@@ -76,12 +76,12 @@ unfolding chars
 names = (refl, refl, refl)
 
 -- where a stream stands there is no storage
-no_storage : (letters : Letters) (tree : Tree) (name bytes : List ℕ) → stream_at letters (objects tree.content) name ≡ Some bytes → HasNoStorageAt letters tree name
+no_storage : (letters : CaseTable) (tree : Tree) (name bytes : List ℕ) → stream_at letters (objects tree.content) name ≡ Some bytes → HasNoStorageAt letters tree name
 no_storage letters tree name bytes there (a_stream n s b) is = refl
 no_storage letters tree name bytes there (a_storage n f inside) is =
     let never : None ≡ Some bytes = sym (ap (option_and_then object_bytes) is) ∙ there in absurd (cc)
 
-pub can_have : (letters : Letters) (tree : Tree) → HasThree letters tree → CanHaveThree letters tree
+pub can_have : (letters : CaseTable) (tree : Tree) → HasThree letters tree → CanHaveThree letters tree
 can_have letters tree three = record {
   summary = no_storage letters tree summary_name three.summary three.summary_at;
   pool = no_storage letters tree (stream_name pool_name) three.pool three.pool_at;
@@ -92,24 +92,24 @@ module _ {F : Type 0} {g : Ghosts F} where
   -- the file means a tree with these bytes at the name
   pub record PutTo (name bytes : List ℕ) (old new : CompoundFile F g) (tree : Tree) : Type 0 where
     pub after : Tree
-    pub means : FileMeans new after
-    pub is : IsPut (letters_in old) name bytes tree after
+    pub means : FileMeansTree new after
+    pub is : IsPut (file_case_table old) name bytes tree after
 
   pub put_to : (name bytes : List ℕ) (path : Option Path) → path ≡ Some (name ∷ []) → (old new : CompoundFile F g) (x : Unit {0}) → FilePuts {T = Unit {0}} (putting bytes) path (Ok x) old new
-      → (tree : Tree) → FileMeans old tree → PutTo name bytes old new tree
+      → (tree : Tree) → FileMeansTree old tree → PutTo name bytes old new tree
   put_to name bytes path at old new x p tree m =
       let d = p.done tree m in
       let same : d.names ≡ name ∷ [] = Some_same (sym d.at_path ∙ at) in
-      let accepted : (putting bytes (letters_in old) tree (name ∷ [])).1 ≡ done = subst (λ (n : Path). (putting bytes (letters_in old) tree n).1 ≡ done) same d.accepted in
+      let accepted : (putting bytes (file_case_table old) tree (name ∷ [])).1 ≡ done = subst (λ (n : Path). (putting bytes (file_case_table old) tree n).1 ≡ done) same d.accepted in
       record {
-        after = (putting bytes (letters_in old) tree (name ∷ [])).0;
-        means = subst (λ (n : Path). FileMeans new (putting bytes (letters_in old) tree n).0) same d.means;
-        is = shape (letters_in old) tree name bytes (means_shown old tree m).ordered.0 accepted;
+        after = (putting bytes (file_case_table old) tree (name ∷ [])).0;
+        means = subst (λ (n : Path). FileMeansTree new (putting bytes (file_case_table old) tree n).0) same d.means;
+        is = shape (file_case_table old) tree name bytes (means_shown old tree m).ordered.0 accepted;
       }
 
   module _ (parts : PartBytes) (old : CompoundFile F g) where
     -- failed, or not sound
-    pub parts_first : (e : Error) → IsFirst old e → PutsParts {T = Unit {0}} parts (Err e) old old
+    pub parts_first : (e : Error) → IsFirst old e → WritesPackageParts {T = Unit {0}} parts (Err e) old old
     parts_first e (inl failed) = record {
       failed = λ before. ap (λ e. Err e) failed.0;
       unsound = λ live unsound. let never : true ≡ false = sym failed.1 ∙ live in absurd (cc);
@@ -126,7 +126,7 @@ module _ {F : Type 0} {g : Ghosts F} where
     }
 
     -- nothing was put
-    pub parts_rest : (e : Error) → IsOpen old → PutsParts {T = Unit {0}} parts (Err e) old old
+    pub parts_rest : (e : Error) → IsOpen old → WritesPackageParts {T = Unit {0}} parts (Err e) old old
     parts_rest e open_file = record {
       failed = λ failed. let never : true ≡ false = sym failed ∙ open_file.0 in absurd (cc);
       unsound = λ live unsound. let never : true ≡ false = sym open_file.1 ∙ unsound in absurd (cc);
@@ -136,13 +136,13 @@ module _ {F : Type 0} {g : Ghosts F} where
     }
 
     -- the first wasn't put
-    pub parts_unput : (path : Option Path) (new : CompoundFile F g) (e : Error) → FilePuts {T = Unit {0}} (putting parts.summary) path (Err e) old new → PutsParts {T = Unit {0}} parts (Err e) old new
+    pub parts_unput : (path : Option Path) (new : CompoundFile F g) (e : Error) → FilePuts {T = Unit {0}} (putting parts.summary) path (Err e) old new → WritesPackageParts {T = Unit {0}} parts (Err e) old new
     parts_unput path new e p = record { failed = p.failed; unsound = p.unsound; done = tt; rests = p.rests; seen = p.seen }
 
     module _ (path : Option Path) (at : path ≡ Some (summary_name ∷ [])) (a : CompoundFile F g) (x : Unit {0}) (one : FilePuts {T = Unit {0}} (putting parts.summary) path (Ok x) old a) where
       -- the first was put, and not the others
-      pub parts_failed : (b new : CompoundFile F g) (e : Error) → (letters_in b ≡ letters_in a) × (sound_of b ≡ sound_of a) × (validation_of b ≡ validation_of a) → has_failed_here (allocator_of (mini_of new)) ≡ true
-          → (letters_in new ≡ letters_in b) × (sound_of new ≡ sound_of b) × (validation_of new ≡ validation_of b) → PutsParts {T = Unit {0}} parts (Err e) old new
+      pub parts_failed : (b new : CompoundFile F g) (e : Error) → (file_case_table b ≡ file_case_table a) × (sound_of b ≡ sound_of a) × (validation_of b ≡ validation_of a) → has_failed_here (allocator_of (mini_of new)) ≡ true
+          → (file_case_table new ≡ file_case_table b) × (sound_of new ≡ sound_of b) × (validation_of new ≡ validation_of b) → WritesPackageParts {T = Unit {0}} parts (Err e) old new
       parts_failed b new e between failed seen = record {
         failed = λ before. let never = one.failed before in absurd (cc);
         unsound = λ live unsound. let never = one.unsound live unsound in absurd (cc);
@@ -153,7 +153,7 @@ module _ {F : Type 0} {g : Ghosts F} where
 
       module _ (pool_path data_path : Option Path) (pool_at : pool_path ≡ Some (stream_name pool_name ∷ [])) (data_at : data_path ≡ Some (stream_name data_name ∷ [])) where
         pub parts_done : (b new : CompoundFile F g) (y z : Unit {0}) → FilePuts {T = Unit {0}} (putting parts.pool) pool_path (Ok y) a b → FilePuts {T = Unit {0}} (putting parts.pool_data) data_path (Ok z) b new
-            → PutsParts {T = Unit {0}} parts (Ok tt) old new
+            → WritesPackageParts {T = Unit {0}} parts (Ok tt) old new
         parts_done b new y z two three = record {
           failed = λ before. let never = one.failed before in absurd (cc);
           unsound = λ live unsound. let never = one.unsound live unsound in absurd (cc);
@@ -161,9 +161,9 @@ module _ {F : Type 0} {g : Ghosts F} where
               let p = put_to summary_name parts.summary path at old a x one tree m in
               let q = put_to (stream_name pool_name) parts.pool pool_path pool_at a b y two p.after p.means in
               let r = put_to (stream_name data_name) parts.pool_data data_path data_at b new z three q.after q.means in
-              let second = subst (λ (l : Letters). IsPut l (stream_name pool_name) parts.pool p.after q.after) one.seen.0 q.is in
-              let third = subst (λ (l : Letters). IsPut l (stream_name data_name) parts.pool_data q.after r.after) (two.seen.0 ∙ one.seen.0) r.is in
-              let letters = letters_in old in
+              let second = subst (λ (l : CaseTable). IsPut l (stream_name pool_name) parts.pool p.after q.after) one.seen.0 q.is in
+              let third = subst (λ (l : CaseTable). IsPut l (stream_name data_name) parts.pool_data q.after r.after) (two.seen.0 ∙ one.seen.0) r.is in
+              let letters = file_case_table old in
               record {
                 after = r.after;
                 means = r.means;
@@ -185,11 +185,11 @@ module _ {F : Type 0} {g : Ghosts F} where
   -- ---- where no storage stands in the streams' places nothing is refused by rule
 
   pub open_fault : (name bytes : List ℕ) (path : Option Path) → path ≡ Some (name ∷ []) → is_name name ≡ true → (old new : CompoundFile F g) (e : Error) → FilePuts {T = Unit {0}} (putting bytes) path (Err e) old new
-      → (tree : Tree) → FileMeans old tree → HasNoStorageAt (letters_in old) tree name → IsFault e
+      → (tree : Tree) → FileMeansTree old tree → HasNoStorageAt (file_case_table old) tree name → IsFaultOrFull e
   open_fault name bytes path at named old new e p tree m none = ⊎_elim (λ fault. fault) (λ told. refuted (at_name letters (objects tree.content) name) refl (answer told.0)) (p.refused tree m)
     where
-      letters : Letters
-      letters = letters_in old
+      letters : CaseTable
+      letters = file_case_table old
 
       answer : answer_by (putting bytes) letters tree path ≡ refused e → (putting bytes letters tree (name ∷ [])).1 ≡ refused e
       answer told = sym (ap (answer_by (putting bytes) letters tree) at) ∙ told
@@ -197,7 +197,7 @@ module _ {F : Type 0} {g : Ghosts F} where
       put : (o : Option Object) → at_name letters (objects tree.content) name ≡ o → putting bytes letters tree (name ∷ []) ≡ put_over bytes letters tree (name ∷ []) o
       put o is = ap (put_over bytes letters tree (name ∷ [])) (at_path letters tree name ∙ is)
 
-      refuted : (o : Option Object) → at_name letters (objects tree.content) name ≡ o → (putting bytes letters tree (name ∷ [])).1 ≡ refused e → IsFault e
+      refuted : (o : Option Object) → at_name letters (objects tree.content) name ≡ o → (putting bytes letters tree (name ∷ [])).1 ≡ refused e → IsFaultOrFull e
       refuted None is told =
           let made : put_over bytes letters tree (name ∷ []) None ≡ (added letters (a_stream name 0 bytes) (name ∷ []) tree, done) =
           ap (λ b. cond b (added letters (a_stream name 0 bytes) (name ∷ []) tree, done) (tree, refused InvalidInput)) named in
@@ -206,31 +206,31 @@ module _ {F : Type 0} {g : Ghosts F} where
       refuted (Some (a_stream n s content)) is told =
           let never : done ≡ refused e = sym (ap (λ (x : Outcome). x.1) (put (Some (a_stream n s content)) is)) ∙ told in absurd (cc)
 
-  pub first_fault : (it : CompoundFile F g) (e : Error) → IsFirst it e → (tree : Tree) → FileMeans it tree → IsFault e
+  pub first_fault : (it : CompoundFile F g) (e : Error) → IsFirst it e → (tree : Tree) → FileMeansTree it tree → IsFaultOrFull e
   first_fault it e (inl failed) tree m = let never : true ≡ false = sym failed.1 ∙ m.live.live in absurd (cc)
   first_fault it e (inr unsound) tree m = let never : true ≡ false = sym m.sound ∙ unsound.2 in absurd (cc)
 
   module _ (parts : PartBytes) (path pool_path data_path : Option Path) (at : path ≡ Some (summary_name ∷ [])) (pool_at : pool_path ≡ Some (stream_name pool_name ∷ [])) (data_at : data_path ≡ Some (stream_name data_name ∷ []))
       (old : CompoundFile F g) where
-    pub summary_fault : (new : CompoundFile F g) (e : Error) → FilePuts {T = Unit {0}} (putting parts.summary) path (Err e) old new → OfPackage old (IsFault e)
+    pub summary_fault : (new : CompoundFile F g) (e : Error) → FilePuts {T = Unit {0}} (putting parts.summary) path (Err e) old new → OfPackage old (IsFaultOrFull e)
     summary_fault new e p tree P m s can = open_fault summary_name parts.summary path at names.0 old new e p tree m can.summary
 
     module _ (a : CompoundFile F g) (x : Unit {0}) (one : FilePuts {T = Unit {0}} (putting parts.summary) path (Ok x) old a) where
-      pub pool_fault : (new : CompoundFile F g) (e : Error) → FilePuts {T = Unit {0}} (putting parts.pool) pool_path (Err e) a new → OfPackage old (IsFault e)
+      pub pool_fault : (new : CompoundFile F g) (e : Error) → FilePuts {T = Unit {0}} (putting parts.pool) pool_path (Err e) a new → OfPackage old (IsFaultOrFull e)
       pool_fault new e p tree P m s can =
           let q = put_to summary_name parts.summary path at old a x one tree m in
-          let none = open_yet (letters_in old) s.usable summary_name parts.summary tree q.after q.is (stream_name pool_name) (pool_not_summary (letters_in old) s.usable) can.pool in
+          let none = open_yet (file_case_table old) s.usable summary_name parts.summary tree q.after q.is (stream_name pool_name) (pool_not_summary (file_case_table old) s.usable) can.pool in
           open_fault (stream_name pool_name) parts.pool pool_path pool_at names.1 a new e p q.after q.means
-          (subst (λ (l : Letters). HasNoStorageAt l q.after (stream_name pool_name)) (sym one.seen.0) none)
+          (subst (λ (l : CaseTable). HasNoStorageAt l q.after (stream_name pool_name)) (sym one.seen.0) none)
 
       pub data_fault : (b : CompoundFile F g) (y : Unit {0}) → FilePuts {T = Unit {0}} (putting parts.pool) pool_path (Ok y) a b → (new : CompoundFile F g) (e : Error)
-          → FilePuts {T = Unit {0}} (putting parts.pool_data) data_path (Err e) b new → OfPackage old (IsFault e)
+          → FilePuts {T = Unit {0}} (putting parts.pool_data) data_path (Err e) b new → OfPackage old (IsFaultOrFull e)
       data_fault b y two new e p tree P m s can =
-          let letters = letters_in old in
+          let letters = file_case_table old in
           let q = put_to summary_name parts.summary path at old a x one tree m in
           let r = put_to (stream_name pool_name) parts.pool pool_path pool_at a b y two q.after q.means in
-          let second = subst (λ (l : Letters). IsPut l (stream_name pool_name) parts.pool q.after r.after) one.seen.0 r.is in
+          let second = subst (λ (l : CaseTable). IsPut l (stream_name pool_name) parts.pool q.after r.after) one.seen.0 r.is in
           let first = open_yet letters s.usable summary_name parts.summary tree q.after q.is (stream_name data_name) (data_not_summary letters s.usable) can.pool_data in
           let none = open_yet letters s.usable (stream_name pool_name) parts.pool q.after r.after second (stream_name data_name) (data_not_pool letters s.usable) first in
           open_fault (stream_name data_name) parts.pool_data data_path data_at names.2 b new e p r.after r.means
-          (subst (λ (l : Letters). HasNoStorageAt l r.after (stream_name data_name)) (sym (two.seen.0 ∙ one.seen.0)) none)
+          (subst (λ (l : CaseTable). HasNoStorageAt l r.after (stream_name data_name)) (sym (two.seen.0 ∙ one.seen.0)) none)

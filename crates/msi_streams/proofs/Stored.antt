@@ -3,14 +3,14 @@ use Rattle.std.proofs.Common.{◌≡◌, ◌∙◌, ℕ, Bool, true, false, cond
 use Rattle.std.specs.Prelude.{◌&&◌, ◌||◌, ◌⊎◌, not, filter, option_and_then, unwrap_or, All, IsTrue}
 use Rattle.std.specs.List.{list_any}
 use Rattle.std.specs.Ordering.{is_eq}
-use Rattle.cfb_tree.specs.Names.{Letters, key_cmp, name_key}
+use Rattle.cfb_tree.specs.Names.{CaseTable, key_cmp, name_key}
 use Rattle.cfb_tree.specs.Objects.{is_same_name, name_of, Object}
 use Rattle.cfb_tree.specs.Tree.{Tree}
 use Rattle.msi_columns.specs.Column.{Column}
-use Rattle.msi_meaning.specs.Opening.{may_use}
-use Rattle.msi_meaning.specs.Package.{Packed, at_name, data_name, has_slash, is_own, is_stream, object_bytes, objects, pool_name, stream_name, summary_name, table_stream}
-use Rattle.msi_meaning.specs.SoundParts.{IsNamed}
-use Rattle.msi_meaning.specs.Split.{Stores}
+use Rattle.msi_spec.specs.Opening.{keeps_encoded_names}
+use Rattle.msi_spec.specs.Package.{PackageContent, at_name, data_name, has_slash, is_own, is_stream, object_bytes, objects, pool_name, stream_name, summary_name, table_stream}
+use Rattle.msi_spec.specs.SoundParts.{HasSoundNames}
+use Rattle.msi_spec.specs.Split.{TreeStoresRest}
 use Rattle.msi_stored.specs.Changing.{KeepsParts}
 use Rattle.msi_tables.specs.Rows.{Row, kinds_of, rows_of}
 use Rattle.msi_tables.specs.Schema.{validation_columns, validation_name}
@@ -19,11 +19,11 @@ use Rattle.msi_texts.specs.StreamName.{is_marked}
 use Rattle.msi_streams.proofs.Marks.{key_of_same, marked_alike}
 
 -- the streams of a package, among all objects
-abbrev pub is_kept : Letters → Packed → Object → Bool
+abbrev pub is_kept : CaseTable → PackageContent → Object → Bool
 is_kept letters P o = is_stream o && not (is_own letters P o)
 
 -- all but the streams of a name stands under the root as it did
-pub record Differs (letters : Letters) (name : List ℕ) (old new : Tree) : Type 0 where
+pub record Differs (letters : CaseTable) (name : List ℕ) (old new : Tree) : Type 0 where
   pub class : new.root ≡ old.root
   pub others : (other : List ℕ) → is_same_name letters other name ≡ false → at_name letters (objects new.content) other ≡ at_name letters (objects old.content) other
   pub storages : filter (λ o. not (is_stream o)) (objects new.content) ≡ filter (λ o. not (is_stream o)) (objects old.content)
@@ -37,7 +37,7 @@ pub not_true : (b : Bool) → (b ≡ true → ⊥) → b ≡ false
 not_true true never = absurd (never refl)
 not_true false never = refl
 
-module _ (letters : Letters) (may : may_use letters ≡ true) (name : List ℕ) (plain : is_marked name ≡ false) where
+module _ (letters : CaseTable) (may : keeps_encoded_names letters ≡ true) (name : List ℕ) (plain : is_marked name ≡ false) where
   -- a marked name is another
   pub marked_differs : (other : List ℕ) → is_marked other ≡ true → is_same_name letters other name ≡ false
   marked_differs other marked = not_true (is_same_name letters other name) (λ same.
@@ -49,7 +49,7 @@ module _ (letters : Letters) (may : may_use letters ≡ true) (name : List ℕ) 
 
   module _ (other : is_same_name letters summary_name name ≡ false) where
     -- the name is none of the database's own streams
-    pub not_own : (P : Packed) (o : Object) → is_same_name letters name (name_of o) ≡ true → is_own letters P o ≡ false
+    pub not_own : (P : PackageContent) (o : Object) → is_same_name letters name (name_of o) ≡ true → is_own letters P o ≡ false
     not_own P o same =
         ap (λ k. list_any (λ n. is_eq (key_cmp (name_key letters n) k)) (summary_name ∷ stream_name pool_name ∷ stream_name data_name ∷ map (λ t. stream_name t.name) P.tables)) (sym (key_of_same letters name (name_of o) same))
         ∙ ap (λ b. b || (is_same_name letters (stream_name pool_name) name || (is_same_name letters (stream_name data_name) name || list_any (λ n. is_same_name letters n name) (map (λ t. stream_name t.name) P.tables)))) other
@@ -58,7 +58,7 @@ module _ (letters : Letters) (may : may_use letters ≡ true) (name : List ℕ) 
         ∙ marked_others (λ t. t.name) P.tables
 
     -- so its streams are streams of the package
-    pub kept_streams : (P : Packed) (o : Object) → is_same_name letters name (name_of o) ≡ true → is_kept letters P o ≡ is_stream o
+    pub kept_streams : (P : PackageContent) (o : Object) → is_same_name letters name (name_of o) ≡ true → is_kept letters P o ≡ is_stream o
     kept_streams P o same = ap (λ b. is_stream o && not b) (not_own P o same) ∙ all_of (is_stream o)
       where
         all_of : (b : Bool) → (b && true) ≡ b
@@ -82,7 +82,7 @@ module _ (letters : Letters) (may : may_use letters ≡ true) (name : List ℕ) 
       read_by long columns bytes = rows_of long (kinds_of columns) (unwrap_or bytes [])
 
       -- the tree stores the package with these streams
-      pub stores_yet : (P : Packed) (streams : List Object) → Stores letters old P → streams ≡ filter (is_kept letters P) (objects new.content) → Stores letters new (record P { streams = streams })
+      pub stores_yet : (P : PackageContent) (streams : List Object) → TreeStoresRest letters old P → streams ≡ filter (is_kept letters P) (objects new.content) → TreeStoresRest letters new (record P { streams = streams })
       stores_yet P streams s is = record {
         class = ap (λ r. r.clsid) d.class ∙ s.class;
         rising = s.rising;
@@ -99,7 +99,7 @@ module _ (letters : Letters) (may : may_use letters ≡ true) (name : List ℕ) 
           row_table : ℕ → Table → Table
           row_table k t = get_or P.tables k t
 
-      pub named_yet : (P : Packed) (streams : List Object) → IsNamed letters P → All (λ o. IsTrue (not (is_marked (name_of o)))) streams → IsNamed letters (record P { streams = streams })
+      pub named_yet : (P : PackageContent) (streams : List Object) → HasSoundNames letters P → All (λ o. IsTrue (not (is_marked (name_of o)))) streams → HasSoundNames letters (record P { streams = streams })
       named_yet P streams n unmarked = record {
         one_section = n.one_section;
         no_strays = unmarked;

@@ -5,26 +5,26 @@ use Rattle.std.specs.List.{list_all}
 use Rattle.std.specs.List.Sorted.{IsStrictlySortedBy}
 use Rattle.std.proofs.lemmas.Bool.Decides.{nat_tests}
 use Rattle.cfb.specs.Putting.{putting}
-use Rattle.cfb.specs.Views.{letters_in, said_at}
+use Rattle.cfb.specs.Views.{file_case_table, said_at}
 use Rattle.cfb.specs.declared.compound_file.CompoundFile.{CompoundFile}
-use Rattle.cfb_meaning.specs.TreeRules.{is_storage_found, is_stream_found, remove_stream, tree_step, yes, Answer}
-use Rattle.cfb_meaning.specs.TreeRules.{is_storage as is_storage_there, is_stream as is_stream_there}
+use Rattle.cfb_spec.specs.TreeRules.{is_storage_found, is_stream_found, remove_stream, tree_step, yes, Answer}
+use Rattle.cfb_spec.specs.TreeRules.{is_storage as is_storage_there, is_stream as is_stream_there}
 use Rattle.cfb_medium.specs.declared.error.Error.{Error}
 use Rattle.cfb_medium.specs.declared.error.Error.TheVariants.{AlreadyExists, InvalidInput, NotFound}
 use Rattle.cfb_medium.specs.declared.medium.ReadMedium.{Ghosts}
-use Rattle.cfb_tree.specs.Names.{Letters, name_cmp}
+use Rattle.cfb_tree.specs.Names.{CaseTable, name_cmp}
 use Rattle.cfb_tree.specs.Objects.{a_storage, a_stream, is_same_name, Object}
 use Rattle.cfb_tree.specs.Tree.{child_names, Tree}
 use Rattle.cfb_tree.proofs.OneContent.{Some_same}
-use Rattle.msi_meaning.specs.Calls.{Ends}
-use Rattle.msi_meaning.specs.Package.{Packed, at_name, is_own, is_stream, object_bytes, objects, stream_at}
-use Rattle.msi_meaning.specs.Streams.{may_name, plain_stream_name, stream_put, stream_read, stream_removed, without_stream}
-use Rattle.msi_meaning.proofs.Roots.{put_found}
-use Rattle.msi_meaning.proofs.UnderRoot.{at_path}
-use Rattle.msi_stored.specs.Changing.{StoresSound}
+use Rattle.msi_spec.specs.Calls.{EndsRefusedOrBy}
+use Rattle.msi_spec.specs.Package.{PackageContent, at_name, is_own, is_stream, object_bytes, objects, stream_at}
+use Rattle.msi_spec.specs.Streams.{may_name, plain_stream_name, stream_put, stream_read, stream_removed, without_stream}
+use Rattle.msi_spec.proofs.Roots.{put_found}
+use Rattle.msi_spec.proofs.UnderRoot.{at_path}
+use Rattle.msi_stored.specs.Changing.{StoresSoundPackage}
 use Rattle.msi_stored.specs.Room.{IsFullForName, IsFullForRule}
 use Rattle.msi_texts.specs.Results.{◌>>=◌, or_refused, unless_not}
-use Rattle.msi_streams.specs.Writing.{written_within, Makes}
+use Rattle.msi_streams.specs.Writing.{written_within, AppliesPackageRule}
 use Rattle.msi_streams.proofs.Changes.{free_storages, stream_found}
 use Rattle.msi_streams.proofs.Exits.{Accepts}
 use Rattle.msi_streams.proofs.Marks.{same_of_key}
@@ -35,12 +35,12 @@ use Rattle.msi_streams.proofs.Taken.{taken_name, taken_other, taken_unmarked}
 
 -- ---- rules that make a package
 
-module _ (made : Packed → Result Packed Error) (P : Packed) where
-  pub makes_refused : (e : Error) → made P ≡ Err e → Makes made P P (Err e)
-  makes_refused e is = subst (λ (r : Result Packed Error). Ends r P P (Err e) (λ R. P ≡ R)) (sym is) (refl, refl)
+module _ (made : PackageContent → Result PackageContent Error) (P : PackageContent) where
+  pub makes_refused : (e : Error) → made P ≡ Err e → AppliesPackageRule made P P (Err e)
+  makes_refused e is = subst (λ (r : Result PackageContent Error). EndsRefusedOrBy r P P (Err e) (λ R. P ≡ R)) (sym is) (refl, refl)
 
-  pub makes_done : (Q : Packed) → made P ≡ Ok Q → Makes made P Q (Ok tt)
-  makes_done Q is = subst (λ (r : Result Packed Error). Ends r P Q (Ok tt) (λ R. Q ≡ R)) (sym is) (refl, refl)
+  pub makes_done : (Q : PackageContent) → made P ≡ Ok Q → AppliesPackageRule made P Q (Ok tt)
+  makes_done Q is = subst (λ (r : Result PackageContent Error). EndsRefusedOrBy r P Q (Ok tt) (λ R. Q ≡ R)) (sym is) (refl, refl)
 
 -- ---- what stands at a name
 
@@ -48,7 +48,7 @@ yes_of : Answer → Bool → Bool
 yes_of (yes b) other = b
 yes_of _ other = other
 
-module _ (letters : Letters) (tree : Tree) (name : List ℕ) where
+module _ (letters : CaseTable) (tree : Tree) (name : List ℕ) where
   pub said_stream : (b : Bool) → yes b ≡ said_at letters tree is_stream_there (Some (name ∷ [])) → is_stream_found (at_name letters (objects tree.content) name) ≡ b
   unfolding yes_of
   said_stream b told = ap is_stream_found (sym (at_path letters tree name)) ∙ sym (ap (λ (a : Answer). yes_of a b) told)
@@ -94,12 +94,12 @@ short_is length most h = grind (arith, nat_tests, h)
 long_is : (length most : ℕ) → most < length → nat_le length most ≡ false
 long_is length most h = grind (arith, nat_tests, h)
 
-module _ (letters : Letters) (name : List ℕ) where
+module _ (letters : CaseTable) (name : List ℕ) where
   abbrev plain : List ℕ
   plain = plain_stream_name name
 
-  module _ (most : ℕ) (bytes : List ℕ) (P : Packed) where
-    abbrev put : Packed
+  module _ (most : ℕ) (bytes : List ℕ) (P : PackageContent) where
+    abbrev put : PackageContent
     put = record P { streams = stream_put letters plain bytes P.streams }
 
     -- what the tests tell, one after the other
@@ -113,7 +113,7 @@ module _ (letters : Letters) (name : List ℕ) where
     pub name_refused : (e : Error) → may_name letters name ≡ Err e → written_within letters most name bytes P ≡ Err e
     name_refused e may = written_by (Err e) (is_none (at_name letters P.storages plain)) (nat_le (length bytes) most) may refl refl
 
-  module _ (tree : Tree) (P : Packed) (s : StoresSound letters tree P) (may : may_name letters name ≡ Ok tt) where
+  module _ (tree : Tree) (P : PackageContent) (s : StoresSoundPackage letters tree P) (may : may_name letters name ≡ Ok tt) where
     -- a storage has the name
     pub storage_refused : (most : ℕ) (bytes : List ℕ) → is_storage_found (at_name letters (objects tree.content) plain) ≡ true → written_within letters most name bytes P ≡ Err AlreadyExists
     storage_refused most bytes found = by (at_name letters (objects tree.content) plain) refl
@@ -133,9 +133,9 @@ module _ (letters : Letters) (name : List ℕ) where
         pub long_refused : most < length bytes → written_within letters most name bytes P ≡ Err InvalidInput
         long_refused long = written_by most bytes P (Ok tt) true false may free (long_is (length bytes) most long)
 
-        pub write_accepts : IsUtf8 name → length bytes ≤ most → Accepts (Makes (written_within letters most name bytes)) letters tree P (putting bytes letters tree (plain ∷ []))
+        pub write_accepts : IsUtf8 name → length bytes ≤ most → Accepts (AppliesPackageRule (written_within letters most name bytes)) letters tree P (putting bytes letters tree (plain ∷ []))
         write_accepts text short =
-            put_accepts letters tree plain rising P s (taken_unmarked letters name may) (taken_other letters name may) (Makes (written_within letters most name bytes)) bytes (taken_name letters name may text)
+            put_accepts letters tree plain rising P s (taken_unmarked letters name may) (taken_other letters name may) (AppliesPackageRule (written_within letters most name bytes)) bytes (taken_name letters name may text)
             (streams_there letters tree plain none)
             (makes_done (written_within letters most name bytes) P (put most bytes P) (written_by most bytes P (Ok tt) true true may free (short_is (length bytes) most short)))
 
@@ -146,10 +146,10 @@ module _ (letters : Letters) (name : List ℕ) where
           ∙ ap (λ os. or_refused (stream_at letters os plain) NotFound) s.stores.streams
           ∙ ap (λ o. or_refused o NotFound) (stream_found letters plain tree rising (is_kept letters P) (kept_streams letters s.usable plain (taken_unmarked letters name may) (taken_other letters name may) P))
 
-      pub remove_accepts : is_stream_found (at_name letters (objects tree.content) plain) ≡ true → Accepts (Makes (λ P. stream_removed letters P name)) letters tree P (tree_step letters tree (remove_stream (plain ∷ [])))
+      pub remove_accepts : is_stream_found (at_name letters (objects tree.content) plain) ≡ true → Accepts (AppliesPackageRule (λ P. stream_removed letters P name)) letters tree P (tree_step letters tree (remove_stream (plain ∷ [])))
       remove_accepts found =
           let it = stream_there letters tree plain found in
-          taken_accepts letters tree plain rising P s (taken_unmarked letters name may) (taken_other letters name may) (Makes (λ P. stream_removed letters P name)) it.object it.there it.stream
+          taken_accepts letters tree plain rising P s (taken_unmarked letters name may) (taken_other letters name may) (AppliesPackageRule (λ P. stream_removed letters P name)) it.object it.there it.stream
           (makes_done (λ P. stream_removed letters P name) P (record P { streams = without_stream letters plain P.streams })
           (ap (λ r. r >>= λ _. Ok (record P { streams = without_stream letters plain P.streams })) (read_is ∙ ap (λ o. or_refused o NotFound) it.has)))
 
@@ -157,7 +157,7 @@ module _ (letters : Letters) (name : List ℕ) where
       remove_missing found =
           ap (λ r. r >>= λ _. Ok (record P { streams = without_stream letters plain P.streams })) (read_is ∙ ap (λ o. or_refused o NotFound) (none_there letters tree plain found))
 
-  pub removal_refused : (P : Packed) (e : Error) → may_name letters name ≡ Err e → stream_removed letters P name ≡ Err e
+  pub removal_refused : (P : PackageContent) (e : Error) → may_name letters name ≡ Err e → stream_removed letters P name ≡ Err e
   removal_refused P e may = ap (λ m. (m >>= λ _. or_refused (stream_at letters P.streams plain) NotFound) >>= λ _. Ok (record P { streams = without_stream letters plain P.streams })) may
 
 -- ---- a file without room
@@ -175,7 +175,7 @@ only_streams p (a_stream n s b ∷ os) = by (p (a_stream n s b)) (only_streams p
     by false rest = rest
 only_streams p (a_storage n f i ∷ os) = only_streams p os
 
-found_stream : (letters : Letters) (name : List ℕ) (os : List Object) → list_all is_stream os ≡ true → (o : Object) → at_name letters os name ≡ Some o → is_stream o ≡ true
+found_stream : (letters : CaseTable) (name : List ℕ) (os : List Object) → list_all is_stream os ≡ true → (o : Object) → at_name letters os name ≡ Some o → is_stream o ≡ true
 found_stream letters name [] streams o there = absurd (cc)
 found_stream letters name (a_storage n f i ∷ os) streams o there = absurd (cc)
 found_stream letters name (a_stream n s b ∷ os) streams o there = by (is_same_name letters name n) there (found_stream letters name os streams o)
@@ -184,20 +184,20 @@ found_stream letters name (a_stream n s b ∷ os) streams o there = by (is_same_
     by true is rest = subst (λ (x : Object). is_stream x ≡ true) (Some_same is) refl
     by false is rest = rest is
 
-module _ {F : Type 0} {g : Ghosts F} (it : CompoundFile F g) (name : List ℕ) (tree : Tree) (P : Packed) (s : StoresSound (letters_in it) tree P) (may : may_name (letters_in it) name ≡ Ok tt)
-    (free : is_none (at_name (letters_in it) P.storages (plain_stream_name name)) ≡ true) (most : ℕ) (bytes : List ℕ) (short : length bytes ≤ most) where
-  pub write_full : IsFullForName it (plain_stream_name name) (length bytes) → IsFullForRule (Makes (written_within (letters_in it) most name bytes)) it P
+module _ {F : Type 0} {g : Ghosts F} (it : CompoundFile F g) (name : List ℕ) (tree : Tree) (P : PackageContent) (s : StoresSoundPackage (file_case_table it) tree P) (may : may_name (file_case_table it) name ≡ Ok tt)
+    (free : is_none (at_name (file_case_table it) P.storages (plain_stream_name name)) ≡ true) (most : ℕ) (bytes : List ℕ) (short : length bytes ≤ most) where
+  pub write_full : IsFullForName it (plain_stream_name name) (length bytes) → IsFullForRule (AppliesPackageRule (written_within (file_case_table it) most name bytes)) it P
   write_full full = record {
-    next = put (letters_in it) name most bytes P;
-    answered = makes_done (written_within (letters_in it) most name bytes) P (put (letters_in it) name most bytes P)
-        (written_by (letters_in it) name most bytes P (Ok tt) true true may free (short_is (length bytes) most short));
+    next = put (file_case_table it) name most bytes P;
+    answered = makes_done (written_within (file_case_table it) most name bytes) P (put (file_case_table it) name most bytes P)
+        (written_by (file_case_table it) name most bytes P (Ok tt) true true may free (short_is (length bytes) most short));
     lacks = inr (record {
       name = plain_stream_name name;
       bytes = bytes;
-      there = put_found (letters_in it) (plain_stream_name name) bytes P.streams
-          (found_stream (letters_in it) (plain_stream_name name) P.streams
-          (subst (λ os. list_all is_stream os ≡ true) (sym s.stores.streams) (only_streams (λ o. not (is_own (letters_in it) P o)) (objects tree.content))))
-          (same_of_key (letters_in it) (plain_stream_name name) (plain_stream_name name) refl);
+      there = put_found (file_case_table it) (plain_stream_name name) bytes P.streams
+          (found_stream (file_case_table it) (plain_stream_name name) P.streams
+          (subst (λ os. list_all is_stream os ≡ true) (sym s.stores.streams) (only_streams (λ o. not (is_own (file_case_table it) P o)) (objects tree.content))))
+          (same_of_key (file_case_table it) (plain_stream_name name) (plain_stream_name name) refl);
       lacks = full;
     });
   }

@@ -10,12 +10,12 @@ use Rattle.std.proofs.lemmas.Str.{encode_ascii, encodes-chars}
 use Rattle.std.specs.Str.{chars}
 use Rattle.cfb_medium.specs.declared.error.Error.{Error}
 use Rattle.cfb_medium.specs.declared.error.Error.TheVariants.{InvalidInput}
-use Rattle.cfb_tree.specs.Names.{Letters, is_forbidden, is_name}
+use Rattle.cfb_tree.specs.Names.{CaseTable, is_forbidden, is_name}
 use Rattle.cfb_tree.specs.Objects.{is_same_name}
 use Rattle.cfb_tree.specs.Paths.{path_names}
-use Rattle.msi_meaning.proofs.EncodedPaths.{path_is, spelled_some}
-use Rattle.msi_meaning.specs.Package.{summary_name}
-use Rattle.msi_meaning.specs.Streams.{document_summary_name, is_separator, is_special, may_name, plain_stream_name, signature_ex_name, signature_name}
+use Rattle.msi_spec.proofs.EncodedPaths.{path_is, spelled_some}
+use Rattle.msi_spec.specs.Package.{summary_name}
+use Rattle.msi_spec.specs.Streams.{document_summary_name, is_separator, is_special, may_name, plain_stream_name, signature_ex_name, signature_name}
 use Rattle.msi_texts.specs.Results.{unless_not}
 use Rattle.msi_texts.specs.StreamName.{is_marked, is_valid_name, joined_or, letter_value, lone, lone_of, pair, pair_of, spelled, spelled_name}
 use Rattle.msi_texts.proofs.NamesReadBack.{first_unmarked}
@@ -123,7 +123,7 @@ some_units (c ∷ cs) some =
     let whole : 1 ≤ length (encode_utf16 c ++ flat_map encode_utf16 cs) = omega (arith, first, length-append (encode_utf16 c) (flat_map encode_utf16 cs)) in
     grind (arith, nat_tests, whole)
 
-module _ (letters : Letters) (name : List ℕ) (may : may_name letters name ≡ Ok tt) where
+module _ (letters : CaseTable) (name : List ℕ) (may : may_name letters name ≡ Ok tt) where
   parts : ((is_valid_name false (chars name) && not (list_any is_separator name)) ≡ true) × (not (is_special letters (plain_stream_name name)) ≡ true)
   parts = and_parts (is_valid_name false (chars name) && not (list_any is_separator name)) (not (is_special letters (plain_stream_name name))) (tested _ InvalidInput may)
 

@@ -12,7 +12,7 @@ use cfb_medium::{Error, ReadMedium};
 pub fn check_changeable<F: ReadMedium>(file: &CompoundFile<F>) -> Result<(), Error>
     ensures open { OnOk result ((has_failed_here (allocator_of (mini_of file.now)) ≡ false)
         × (sound_of file.now ≡ true)) }
-    ensures refused { IfErr result (λ e. ((e ≡ Failed)
+    ensures refused_only_if { IfErr result (λ e. ((e ≡ Failed)
         × (has_failed_here (allocator_of (mini_of file.now)) ≡ true)) ⊎ ((e ≡ InvalidData)
         × (has_failed_here (allocator_of (mini_of file.now)) ≡ false)
         × (sound_of file.now ≡ false))) }

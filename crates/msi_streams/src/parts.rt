@@ -1,24 +1,24 @@
 //! The pool and the summary of a package, written to their streams.
 ghost use Rattle.std.specs.Prelude.{◌≡◌, ◌<◌, ◌⊎◌, ◌∷◌, ◌≤◌, [], false, true, length, string_bytes, IfErr, IfOk, Some};
-ghost use Rattle.cfb.specs.Putting.{IsRefusedPut, KeepsMeant};
+ghost use Rattle.cfb.specs.Putting.{IsPutStreamError, KeepsMeant};
 ghost use Rattle.cfb.specs.Views.{mini_of};
 ghost use Rattle.cfb_entries.specs.Rules.{names_in};
-ghost use Rattle.cfb_fat.specs.Calls.{FatAnswers};
-ghost use Rattle.cfb_live.specs.Doing.{IsFault};
+ghost use Rattle.cfb_fat.specs.Calls.{FatErrorContract};
+ghost use Rattle.cfb_tree_edits.specs.LiveTreeRules.{IsFaultOrFull};
 ghost use Rattle.cfb_medium.specs.declared.error.Error.TheVariants.{InvalidInput, Memory};
 ghost use Rattle.cfb_mini.specs.Views.{allocator_of};
-ghost use Rattle.cfb_owned.specs.Chains.{GoesOn};
-ghost use Rattle.cfb_tree.specs.Names.{Letters};
+ghost use Rattle.cfb_chain_io.specs.ChainEffects.{KeepsFileInvariants};
+ghost use Rattle.cfb_tree.specs.Names.{CaseTable};
 ghost use Rattle.cfb_tree.specs.Tree.{Tree};
-ghost use Rattle.msi_meaning.specs.Package.{data_name, has_slash, objects, pool_name, stream_at, stream_name, summary_name, table_stream};
-ghost use Rattle.msi_meaning.specs.Split.{HasPool, HasSummary};
+ghost use Rattle.msi_spec.specs.Package.{data_name, has_slash, objects, pool_name, stream_at, stream_name, summary_name, table_stream};
+ghost use Rattle.msi_spec.specs.Split.{HasPool, HasSummary};
 ghost use Rattle.msi_pool.specs.Pool.{data_stream, pool_stream, Pool};
 ghost use Rattle.msi_pool.specs.PoolKept.{IsWritable};
 ghost use Rattle.msi_pool.specs.PoolState.{is_in_size};
 ghost use Rattle.msi_props.specs.Kept.{SetIsWritable};
 ghost use Rattle.msi_props.specs.Props.{is_in_size as set_is_in_size, props_bytes, Props};
 ghost use Rattle.msi_summary.specs.Summary.{summary_format};
-ghost use Rattle.msi_streams.specs.Parts.{bytes_of_parts, FillsParts, IsTooLong, OfPackage, PutsParts};
+ghost use Rattle.msi_streams.specs.Parts.{bytes_of_parts, FillsParts, IsTooLong, OfPackage, WritesPackageParts};
 ghost use Rattle.msi_streams.specs.Writing.{most_bytes};
 
 use crate::checking::check_changeable;
@@ -34,7 +34,7 @@ fn table_path(alloc: Global, name: &str) -> Result<String, Error>
     requires { has_slash name.now ≡ false }
     ensures path { IfOk result (λ text. names_in (string_bytes text)
         ≡ Some (stream_name name.now ∷ [])) }
-    ensures error { IfErr result (λ e. e ≡ Memory) }
+    ensures errors { IfErr result (λ e. e ≡ Memory) }
 {
     encode(alloc, name, true)
 }
@@ -53,13 +53,15 @@ fn put_parts<F: Medium>(
     requires data_at { names_in data_path.now ≡ Some (stream_name data_name ∷ []) }
     requires short { (length summary.now ≤ most_bytes file.old)
         × (length pool.now ≤ most_bytes file.old) × (length pool_data.now ≤ most_bytes file.old) }
-    ensures changes { PutsParts
+    ensures changes { WritesPackageParts
         (record { summary = summary.now; pool = pool.now; pool_data = pool_data.now })
         result file.old file.new }
-    ensures refused { IfErr result (λ e. OfPackage file.old (IsFault e)) }
-    ensures full { FillsParts (length summary.now) result file.old file.new }
-    ensures goes_on { GoesOn (allocator_of (mini_of file.old)) (allocator_of (mini_of file.new)) }
-    ensures answers { FatAnswers IsRefusedPut result (allocator_of (mini_of file.old))
+    ensures refused_only_if { IfErr result (λ e. OfPackage file.old (IsFaultOrFull e)) }
+    ensures full_only_if { FillsParts (length summary.now) result file.old file.new }
+    ensures invariants { KeepsFileInvariants (allocator_of (mini_of file.old))
+        (allocator_of (mini_of file.new)) }
+    ensures error_contract { FatErrorContract IsPutStreamError result
+        (allocator_of (mini_of file.old))
         (allocator_of (mini_of file.new)) }
 {
     if let Err(error) = file.put_stream(SUMMARY_INFO_STREAM_NAME, summary) {
@@ -85,7 +87,7 @@ fn part_bytes(
 ) -> Result<(Vec<u8>, Vec<u8>, Vec<u8>), Error>
     ensures made { IfOk result (λ b. (b.0.items ≡ props_bytes summary.now.props)
         × (b.1.items ≡ pool_stream pool.now.pool) × (b.2.items ≡ data_stream pool.now.pool)) }
-    ensures error { IfErr result (λ e. (e ≡ Memory) ⊎ ((e ≡ InvalidInput)
+    ensures errors { IfErr result (λ e. (e ≡ Memory) ⊎ ((e ≡ InvalidInput)
         × ((set_is_in_size summary.now.props ≡ false) ⊎ (is_in_size pool.now.pool ≡ false)))) }
 {
     let mut summary_bytes = Vec::new(alloc);
@@ -131,14 +133,19 @@ pub fn write_parts<F: Medium>(
     pool: &StringPool,
     summary: &SummaryInfo,
 ) -> Result<(), Error>
-    ensures changes { PutsParts (bytes_of_parts pool.now.pool summary.now.props) result file.old
+    ensures changes { WritesPackageParts
+        (bytes_of_parts pool.now.pool summary.now.props) result file.old
         file.new }
-    ensures refused { IfErr result (λ e. OfPackage file.old (IsFault e ⊎ ((e ≡ InvalidInput)
+    ensures refused_only_if { IfErr result
+        (λ e. OfPackage file.old (IsFaultOrFull e ⊎ ((e ≡ InvalidInput)
         × IsTooLong (most_bytes file.old) pool.now.pool summary.now.props
         × KeepsMeant file.old file.new))) }
-    ensures full { FillsParts (length (props_bytes summary.now.props)) result file.old file.new }
-    ensures goes_on { GoesOn (allocator_of (mini_of file.old)) (allocator_of (mini_of file.new)) }
-    ensures answers { FatAnswers IsRefusedPut result (allocator_of (mini_of file.old))
+    ensures full_only_if { FillsParts
+        (length (props_bytes summary.now.props)) result file.old file.new }
+    ensures invariants { KeepsFileInvariants (allocator_of (mini_of file.old))
+        (allocator_of (mini_of file.new)) }
+    ensures error_contract { FatErrorContract IsPutStreamError result
+        (allocator_of (mini_of file.old))
         (allocator_of (mini_of file.new)) }
 {
     if let Err(error) = check_changeable(file) {
@@ -172,11 +179,11 @@ pub fn write_parts<F: Medium>(
 
 /// Streams that were written so hold the pool and the summary, where these can be written and the summary is of one section.
 pub fn written_parts_are_held()
-    ensures pool { (letters : Letters) (tree : Tree) (pool : Pool) → IsWritable pool
+    ensures pool { (letters : CaseTable) (tree : Tree) (pool : Pool) → IsWritable pool
         → table_stream letters (objects tree.content) pool_name ≡ Some (pool_stream pool)
         → table_stream letters (objects tree.content) data_name ≡ Some (data_stream pool)
         → HasPool letters tree pool }
-    ensures summary { (letters : Letters) (tree : Tree) (summary : Props) → SetIsWritable summary
+    ensures summary { (letters : CaseTable) (tree : Tree) (summary : Props) → SetIsWritable summary
         → summary.sections ≡ 1 → summary.format ≡ summary_format
         → stream_at letters (objects tree.content) summary_name ≡ Some (props_bytes summary)
         → HasSummary letters tree summary }

@@ -1,14 +1,14 @@
 //! The digital signature of a package, which is removed.
 ghost use Rattle.std.specs.Prelude.{◌≡◌, ◌∷◌, [], chars, false, Ok, Some};
-ghost use Rattle.cfb.specs.Views.{letters_in, mini_of};
+ghost use Rattle.cfb.specs.Views.{file_case_table, mini_of};
 ghost use Rattle.cfb_entries.specs.Rules.{names_in};
-ghost use Rattle.cfb_fat.specs.Calls.{FatAnswers};
-ghost use Rattle.cfb_live.specs.Removing.{IsRefusedRemoval};
+ghost use Rattle.cfb_fat.specs.Calls.{FatErrorContract};
+ghost use Rattle.cfb_tree_edits.specs.Removing.{IsRemoveObjectError};
 ghost use Rattle.cfb_mini.specs.Views.{allocator_of};
-ghost use Rattle.cfb_owned.specs.Chains.{GoesOn};
-ghost use Rattle.msi_meaning.specs.Streams.{unsigned};
-ghost use Rattle.msi_stored.specs.Changing.{ChangesBy};
-ghost use Rattle.msi_streams.specs.Writing.{without, Makes};
+ghost use Rattle.cfb_chain_io.specs.ChainEffects.{KeepsFileInvariants};
+ghost use Rattle.msi_spec.specs.Streams.{unsigned};
+ghost use Rattle.msi_stored.specs.Changing.{ChangesStoredPackage};
+ghost use Rattle.msi_streams.specs.Writing.{without, AppliesPackageRule};
 ghost use Rattle.msi_texts.specs.StreamName.{is_marked};
 
 use crate::checking::check_changeable;
@@ -24,11 +24,13 @@ use msi_texts::{
 fn remove_named<F: Medium>(file: &mut CompoundFile<F>, name: &str) -> Result<(), Error>
     requires path { names_in name.now ≡ Some (chars name.now ∷ []) }
     requires unmarked { is_marked (chars name.now) ≡ false }
-    ensures changes { ChangesBy
-        (Makes (λ P. Ok (without (letters_in file.old) (chars name.now) P)))
+    ensures changes { ChangesStoredPackage
+        (AppliesPackageRule (λ P. Ok (without (file_case_table file.old) (chars name.now) P)))
         result file.old file.new }
-    ensures goes_on { GoesOn (allocator_of (mini_of file.old)) (allocator_of (mini_of file.new)) }
-    ensures answers { FatAnswers IsRefusedRemoval result (allocator_of (mini_of file.old))
+    ensures invariants { KeepsFileInvariants (allocator_of (mini_of file.old))
+        (allocator_of (mini_of file.new)) }
+    ensures error_contract { FatErrorContract IsRemoveObjectError result
+        (allocator_of (mini_of file.old))
         (allocator_of (mini_of file.new)) }
 {
     if let Err(error) = check_changeable(file) {
@@ -47,10 +49,13 @@ fn remove_named<F: Medium>(file: &mut CompoundFile<F>, name: &str) -> Result<(),
 /// where the file isn't sound. The other errors are `Memory` and `Device`. After an error nothing is changed, or the file has failed:
 /// so it has where the first of two streams was removed, and the second wasn't.
 pub fn remove_digital_signature<F: Medium>(file: &mut CompoundFile<F>) -> Result<(), Error>
-    ensures changes { ChangesBy (Makes (λ P. Ok (unsigned (letters_in file.old) P)))
+    ensures changes { ChangesStoredPackage
+        (AppliesPackageRule (λ P. Ok (unsigned (file_case_table file.old) P)))
         result file.old file.new }
-    ensures goes_on { GoesOn (allocator_of (mini_of file.old)) (allocator_of (mini_of file.new)) }
-    ensures answers { FatAnswers IsRefusedRemoval result (allocator_of (mini_of file.old))
+    ensures invariants { KeepsFileInvariants (allocator_of (mini_of file.old))
+        (allocator_of (mini_of file.new)) }
+    ensures error_contract { FatErrorContract IsRemoveObjectError result
+        (allocator_of (mini_of file.old))
         (allocator_of (mini_of file.new)) }
 {
     if let Err(error) = remove_named(file, DIGITAL_SIGNATURE_STREAM_NAME) {

@@ -1,19 +1,19 @@
 //! A package's streams that are written and removed.
 ghost use Rattle.std.specs.Prelude.{◌≡◌, ◌<◌, ◌⊎◌, ℕ, length, Err, List, Ok};
-ghost use Rattle.cfb.specs.Putting.{IsRefusedPut};
-ghost use Rattle.cfb.specs.Views.{letters_in, mini_of};
-ghost use Rattle.cfb_fat.specs.Calls.{FatAnswers};
-ghost use Rattle.cfb_live.specs.Removing.{IsRefusedRemoval};
+ghost use Rattle.cfb.specs.Putting.{IsPutStreamError};
+ghost use Rattle.cfb.specs.Views.{file_case_table, mini_of};
+ghost use Rattle.cfb_fat.specs.Calls.{FatErrorContract};
+ghost use Rattle.cfb_tree_edits.specs.Removing.{IsRemoveObjectError};
 ghost use Rattle.cfb_mini.specs.Views.{allocator_of};
-ghost use Rattle.cfb_owned.specs.Chains.{GoesOn};
+ghost use Rattle.cfb_chain_io.specs.ChainEffects.{KeepsFileInvariants};
 ghost use Rattle.cfb_medium.specs.declared.error.Error.{Error};
 ghost use Rattle.cfb_medium.specs.declared.error.Error.TheVariants.{InvalidInput};
-ghost use Rattle.cfb_tree.specs.Names.{Letters};
-ghost use Rattle.msi_meaning.specs.Package.{Packed};
-ghost use Rattle.msi_meaning.specs.Streams.{stream_removed, stream_written};
-ghost use Rattle.msi_stored.specs.Changing.{ChangesBy};
+ghost use Rattle.cfb_tree.specs.Names.{CaseTable};
+ghost use Rattle.msi_spec.specs.Package.{PackageContent};
+ghost use Rattle.msi_spec.specs.Streams.{stream_removed, stream_written};
+ghost use Rattle.msi_stored.specs.Changing.{ChangesStoredPackage};
 ghost use Rattle.msi_stored.specs.Room.{FillsBy};
-ghost use Rattle.msi_streams.specs.Writing.{most_bytes, written_within, Makes};
+ghost use Rattle.msi_streams.specs.Writing.{most_bytes, written_within, AppliesPackageRule};
 
 use crate::checking::check_changeable;
 use crate::names::encoded_stream_name;
@@ -30,14 +30,18 @@ pub fn write_stream<F: Medium>(
     name: &str,
     bytes: &[u8],
 ) -> Result<(), Error>
-    ensures changes { ChangesBy
-        (Makes (written_within (letters_in file.old) (most_bytes file.old) name.now bytes.now))
+    ensures changes { ChangesStoredPackage
+        (AppliesPackageRule
+        (written_within (file_case_table file.old) (most_bytes file.old) name.now bytes.now))
         result file.old file.new }
-    ensures full { FillsBy
-        (Makes (written_within (letters_in file.old) (most_bytes file.old) name.now bytes.now))
+    ensures full_only_if { FillsBy
+        (AppliesPackageRule
+        (written_within (file_case_table file.old) (most_bytes file.old) name.now bytes.now))
         result file.old file.new }
-    ensures goes_on { GoesOn (allocator_of (mini_of file.old)) (allocator_of (mini_of file.new)) }
-    ensures answers { FatAnswers IsRefusedPut result (allocator_of (mini_of file.old))
+    ensures invariants { KeepsFileInvariants (allocator_of (mini_of file.old))
+        (allocator_of (mini_of file.new)) }
+    ensures error_contract { FatErrorContract IsPutStreamError result
+        (allocator_of (mini_of file.old))
         (allocator_of (mini_of file.new)) }
 {
     if let Err(error) = check_changeable(file) {
@@ -60,10 +64,13 @@ pub fn write_stream<F: Medium>(
 /// `InvalidInput` where no stream can have the name, `NotFound` where no stream has it. The other errors are `Memory` and `Device`.
 /// After an error nothing is changed, or the file has failed.
 pub fn remove_stream<F: Medium>(file: &mut CompoundFile<F>, name: &str) -> Result<(), Error>
-    ensures changes { ChangesBy
-        (Makes (λ P. stream_removed (letters_in file.old) P name.now)) result file.old file.new }
-    ensures goes_on { GoesOn (allocator_of (mini_of file.old)) (allocator_of (mini_of file.new)) }
-    ensures answers { FatAnswers IsRefusedRemoval result (allocator_of (mini_of file.old))
+    ensures changes { ChangesStoredPackage
+        (AppliesPackageRule (λ P. stream_removed (file_case_table file.old) P name.now)) result
+        file.old file.new }
+    ensures invariants { KeepsFileInvariants (allocator_of (mini_of file.old))
+        (allocator_of (mini_of file.new)) }
+    ensures error_contract { FatErrorContract IsRemoveObjectError result
+        (allocator_of (mini_of file.old))
         (allocator_of (mini_of file.new)) }
 {
     if let Err(error) = check_changeable(file) {
@@ -81,10 +88,11 @@ pub fn remove_stream<F: Medium>(file: &mut CompoundFile<F>, name: &str) -> Resul
 
 /// What is written within a length is written as the definition says; a refusal is the definition's, or there are more bytes.
 pub fn streams_are_written_within()
-    ensures done { (letters : Letters) (most : ℕ) (name bytes : List ℕ) (P Q : Packed)
+    ensures done { (letters : CaseTable) (most : ℕ) (name bytes : List ℕ) (P Q : PackageContent)
         → written_within letters most name bytes P ≡ Ok Q
         → stream_written letters P name bytes ≡ Ok Q }
-    ensures refused { (letters : Letters) (most : ℕ) (name bytes : List ℕ) (P : Packed) (e : Error)
+    ensures refused_only_if { (letters : CaseTable) (most : ℕ) (name bytes : List ℕ)
+        (P : PackageContent) (e : Error)
         → written_within letters most name bytes P ≡ Err e
         → (stream_written letters P name bytes ≡ Err e)
         ⊎ ((e ≡ InvalidInput) × (most < length bytes)) }

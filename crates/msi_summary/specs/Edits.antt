@@ -10,5 +10,5 @@ abbrev pub edited_state : Edit → SetState → SetState
 edited_state change s = record s { props = edited change s.props }
 
 -- an edit was made, or there was no memory and nothing changed
-abbrev pub Edits : Edit → SetState → SetState → Result (Unit {0}) Error → Type 0
-Edits change old new r = MatchResult r (λ _. new ≡ edited_state change old) (λ e. (e ≡ Memory) × (new ≡ old))
+abbrev pub EditsOrOutOfMemory : Edit → SetState → SetState → Result (Unit {0}) Error → Type 0
+EditsOrOutOfMemory change old new r = MatchResult r (λ _. new ≡ edited_state change old) (λ e. (e ≡ Memory) × (new ≡ old))

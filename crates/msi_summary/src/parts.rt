@@ -53,7 +53,7 @@ fn cut_at(alloc: Global, text: &str, separator: char) -> Result<Vec<&str>, Alloc
 pub(crate) fn languages_in(alloc: Global, text: &str) -> Result<Vec<LanguageId>, Error>
     ensures ok { IfOk result (λ languages. languages.items
         ≡ filter_map id_read (slice_split (λ b. b == 44) text.now)) }
-    ensures err { IfErr result (λ e. e ≡ Memory) }
+    ensures errors { IfErr result (λ e. e ≡ Memory) }
 {
     let parts = cut_at(alloc, text, ',')?;
     languages_among(alloc, &parts)
@@ -63,7 +63,7 @@ pub(crate) fn languages_in(alloc: Global, text: &str) -> Result<Vec<LanguageId>,
 fn languages_among(alloc: Global, parts: &[&str]) -> Result<Vec<LanguageId>, Error>
     ensures ok { IfOk result (λ languages. languages.items
         ≡ filter_map id_read (map (λ p. p.now) parts.now)) }
-    ensures err { IfErr result (λ e. e ≡ Memory) }
+    ensures errors { IfErr result (λ e. e ≡ Memory) }
 {
     let mut languages = Vec::new(alloc);
     for part in parts {
@@ -100,7 +100,7 @@ pub(crate) fn push_languages(words: &mut String, languages: &[LanguageId]) -> Re
 // The texts that semicolons part, without the white space at their ends; none of no text.
 pub(crate) fn parts_in(alloc: Global, text: &str) -> Result<Vec<String>, Error>
     ensures ok { IfOk result (λ parts. map string_bytes parts.items ≡ parts_of text.now) }
-    ensures err { IfErr result (λ e. e ≡ Memory) }
+    ensures errors { IfErr result (λ e. e ≡ Memory) }
 {
     if text.is_empty() {
         return Ok(Vec::new(alloc));
@@ -113,7 +113,7 @@ pub(crate) fn parts_in(alloc: Global, text: &str) -> Result<Vec<String>, Error>
 fn trimmed_texts(alloc: Global, texts: &[&str]) -> Result<Vec<String>, Error>
     ensures ok { IfOk result (λ parts. map string_bytes parts.items
         ≡ map trim (map (λ t. t.now) texts.now)) }
-    ensures err { IfErr result (λ e. e ≡ Memory) }
+    ensures errors { IfErr result (λ e. e ≡ Memory) }
 {
     let mut parts = Vec::new(alloc);
     for text in texts {
@@ -138,7 +138,7 @@ fn push_parts(words: &mut String, parts: &[String]) -> Result<(), AllocError>
 pub(crate) fn joined_parts(alloc: Global, parts: &[String]) -> Result<String, Error>
     ensures ok { IfOk result (λ words. string_bytes words
         ≡ join_texts (codes "; ") (map string_bytes parts.now)) }
-    ensures err { IfErr result (λ e. e ≡ Memory) }
+    ensures errors { IfErr result (λ e. e ≡ Memory) }
 {
     let mut words = String::new(alloc);
     if let [first, rest @ ..] = parts {

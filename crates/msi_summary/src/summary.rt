@@ -2,11 +2,11 @@
 ghost use Rattle.std.specs.Prelude.{◌≡◌, ◌↔◌, ◌⊎◌, ◌++◌, false, true, IfErr, IfOk, IsTrue, None, OnErr, OnOk, Some, map, option_map, string_bytes};
 ghost use Rattle.cfb_medium.specs.Times.{units_of};
 ghost use Rattle.cfb_medium.specs.declared.error.Error.TheVariants.{InvalidInput, Memory};
-ghost use Rattle.msi_texts.specs.Results.{Answers};
+ghost use Rattle.msi_texts.specs.Results.{ReturnsOrOutOfMemory};
 ghost use Rattle.uuid.specs.Text.{braced_text, upper};
 ghost use Rattle.msi_props.specs.Held.{pair_in, property_in};
 ghost use Rattle.msi_props.specs.Kept.{SetIsWritable};
-ghost use Rattle.msi_summary.specs.Edits.{Edits, edited_state};
+ghost use Rattle.msi_summary.specs.Edits.{EditsOrOutOfMemory, edited_state};
 ghost use Rattle.msi_props.specs.Props as property;
 ghost use Rattle.msi_props.specs.Props.{is_in_size, props_bytes, property_named, texts_give_back};
 ghost use Rattle.msi_summary.specs.Summary.{arch_of, keywords_of, languages_of, set_arch, set_keywords, set_languages, some_text, uuid_of, as_number, as_text, as_time, new_summary, number_field, set_number, set_or_cleared, set_page, set_text, set_time, summary_format, summary_read, text_field, time_field};
@@ -116,7 +116,7 @@ impl SummaryInfo {
               props = set_or_cleared number (Some (property_in value))
                   self.old.props;
             }) }
-        ensures err { IfErr result (λ e. (e ≡ Memory) × (self.new ≡ self.old)) }
+        ensures errors { IfErr result (λ e. (e ≡ Memory) × (self.new ≡ self.old)) }
     {
         self.properties.set(number, value)
     }
@@ -124,7 +124,7 @@ impl SummaryInfo {
     // Sets a text.
     fn put_text(&mut self, number: u32, text: &str) -> Result<(), Error>
         requires { (number ≡ 1) → ⊥ }
-        ensures { Edits (set_text number (Some text.now)) self.old self.new result }
+        ensures { EditsOrOutOfMemory (set_text number (Some text.now)) self.old self.new result }
     {
         let text = String::from_str(self.alloc, text)?;
         self.put(number, PropertyValue::LpStr(text))
@@ -136,7 +136,7 @@ impl SummaryInfo {
     pub fn new(alloc: Global) -> Result<SummaryInfo, Error>
         ensures ok { IfOk result (λ summary. summary
             ≡ record { props = new_summary; whole = true }) }
-        ensures err { IfErr result (λ e. e ≡ Memory) }
+        ensures errors { IfErr result (λ e. e ≡ Memory) }
     {
         let mut properties = PropertySet::new(alloc, OperatingSystem::Win32, 10, FORMAT);
         properties.set_codepage(CodePage::Utf8)?;
@@ -145,7 +145,8 @@ impl SummaryInfo {
 
     /// Reads a summary: a property set, refused as such, and then InvalidData where its identifier is another.
     pub fn read(alloc: Global, bytes: &[u8]) -> Result<SummaryInfo, Error>
-        ensures read { Answers (λ summary. summary.props) result (summary_read bytes.now) }
+        ensures read { ReturnsOrOutOfMemory (λ summary. summary.props) result
+            (summary_read bytes.now) }
         ensures whole { IfOk result (λ summary. summary.whole ≡ texts_give_back bytes.now) }
     {
         let properties = PropertySet::read(alloc, bytes)?;
@@ -160,7 +161,7 @@ impl SummaryInfo {
     pub fn write(&self, writer: &mut Vec<u8>) -> Result<(), Error>
         ensures ok { OnOk result (IsTrue (is_in_size self.now.props)
             × (writer.new.items ≡ writer.old.items ++ props_bytes self.now.props)) }
-        ensures err { IfErr result (λ e. (writer.new.items ≡ writer.old.items)
+        ensures after_error { IfErr result (λ e. (writer.new.items ≡ writer.old.items)
             × ((e ≡ Memory) ⊎ ((e ≡ InvalidInput) × (is_in_size self.now.props ≡ false)))) }
     {
         self.properties.write(writer)
@@ -206,7 +207,7 @@ impl SummaryInfo {
 
     /// Sets the code page. Texts stay as they are. After Memory nothing changed.
     pub fn set_codepage(&mut self, codepage: CodePage) -> Result<(), Error>
-        ensures { Edits (set_page codepage) self.old self.new result }
+        ensures { EditsOrOutOfMemory (set_page codepage) self.old self.new result }
     {
         self.properties.set_codepage(codepage)
     }
@@ -220,7 +221,7 @@ impl SummaryInfo {
 
     /// Sets the title. After Memory nothing changed.
     pub fn set_title(&mut self, title: &str) -> Result<(), Error>
-        ensures { Edits (set_text 2 (Some title.now)) self.old self.new result }
+        ensures { EditsOrOutOfMemory (set_text 2 (Some title.now)) self.old self.new result }
     {
         self.put_text(TITLE, title)
     }
@@ -241,7 +242,7 @@ impl SummaryInfo {
 
     /// Sets the subject. After Memory nothing changed.
     pub fn set_subject(&mut self, subject: &str) -> Result<(), Error>
-        ensures { Edits (set_text 3 (Some subject.now)) self.old self.new result }
+        ensures { EditsOrOutOfMemory (set_text 3 (Some subject.now)) self.old self.new result }
     {
         self.put_text(SUBJECT, subject)
     }
@@ -262,7 +263,7 @@ impl SummaryInfo {
 
     /// Sets the author. After Memory nothing changed.
     pub fn set_author(&mut self, author: &str) -> Result<(), Error>
-        ensures { Edits (set_text 4 (Some author.now)) self.old self.new result }
+        ensures { EditsOrOutOfMemory (set_text 4 (Some author.now)) self.old self.new result }
     {
         self.put_text(AUTHOR, author)
     }
@@ -283,7 +284,7 @@ impl SummaryInfo {
 
     /// Sets the comments. After Memory nothing changed.
     pub fn set_comments(&mut self, comments: &str) -> Result<(), Error>
-        ensures { Edits (set_text 6 (Some comments.now)) self.old self.new result }
+        ensures { EditsOrOutOfMemory (set_text 6 (Some comments.now)) self.old self.new result }
     {
         self.put_text(COMMENTS, comments)
     }
@@ -304,7 +305,8 @@ impl SummaryInfo {
 
     /// Sets the last saver. After Memory nothing changed.
     pub fn set_last_saved_by(&mut self, last_saved_by: &str) -> Result<(), Error>
-        ensures { Edits (set_text 8 (Some last_saved_by.now)) self.old self.new result }
+        ensures { EditsOrOutOfMemory
+            (set_text 8 (Some last_saved_by.now)) self.old self.new result }
     {
         self.put_text(LAST_SAVED_BY, last_saved_by)
     }
@@ -325,7 +327,8 @@ impl SummaryInfo {
 
     /// Sets the program. After Memory nothing changed.
     pub fn set_creating_application(&mut self, creating_application: &str) -> Result<(), Error>
-        ensures { Edits (set_text 18 (Some creating_application.now)) self.old self.new result }
+        ensures { EditsOrOutOfMemory
+            (set_text 18 (Some creating_application.now)) self.old self.new result }
     {
         self.put_text(CREATING_APPLICATION, creating_application)
     }
@@ -346,7 +349,7 @@ impl SummaryInfo {
 
     /// Sets the page count. After Memory nothing changed.
     pub fn set_page_count(&mut self, page_count: i32) -> Result<(), Error>
-        ensures { Edits (set_number 14 (Some page_count)) self.old self.new result }
+        ensures { EditsOrOutOfMemory (set_number 14 (Some page_count)) self.old self.new result }
     {
         self.put(PAGE_COUNT, PropertyValue::I4(page_count))
     }
@@ -367,7 +370,7 @@ impl SummaryInfo {
 
     /// Sets the word count. After Memory nothing changed.
     pub fn set_word_count(&mut self, word_count: i32) -> Result<(), Error>
-        ensures { Edits (set_number 15 (Some word_count)) self.old self.new result }
+        ensures { EditsOrOutOfMemory (set_number 15 (Some word_count)) self.old self.new result }
     {
         self.put(WORD_COUNT, PropertyValue::I4(word_count))
     }
@@ -388,7 +391,8 @@ impl SummaryInfo {
 
     /// Sets the character count. After Memory nothing changed.
     pub fn set_character_count(&mut self, character_count: i32) -> Result<(), Error>
-        ensures { Edits (set_number 16 (Some character_count)) self.old self.new result }
+        ensures { EditsOrOutOfMemory
+            (set_number 16 (Some character_count)) self.old self.new result }
     {
         self.put(CHARACTER_COUNT, PropertyValue::I4(character_count))
     }
@@ -409,7 +413,7 @@ impl SummaryInfo {
 
     /// Sets the security. After Memory nothing changed.
     pub fn set_doc_security(&mut self, doc_security: i32) -> Result<(), Error>
-        ensures { Edits (set_number 19 (Some doc_security)) self.old self.new result }
+        ensures { EditsOrOutOfMemory (set_number 19 (Some doc_security)) self.old self.new result }
     {
         self.put(DOC_SECURITY, PropertyValue::I4(doc_security))
     }
@@ -430,7 +434,8 @@ impl SummaryInfo {
 
     /// Sets the moment at which it was made. After Memory nothing changed.
     pub fn set_creation_time(&mut self, moment: Timestamp) -> Result<(), Error>
-        ensures { Edits (set_time 12 (Some (units_of moment))) self.old self.new result }
+        ensures { EditsOrOutOfMemory
+            (set_time 12 (Some (units_of moment))) self.old self.new result }
     {
         self.put(CREATION_TIME, PropertyValue::FileTime(moment))
     }
@@ -451,7 +456,8 @@ impl SummaryInfo {
 
     /// Sets the moment at which it was printed last. After Memory nothing changed.
     pub fn set_last_printed(&mut self, moment: Timestamp) -> Result<(), Error>
-        ensures { Edits (set_time 11 (Some (units_of moment))) self.old self.new result }
+        ensures { EditsOrOutOfMemory
+            (set_time 11 (Some (units_of moment))) self.old self.new result }
     {
         self.put(LAST_PRINTED, PropertyValue::FileTime(moment))
     }
@@ -472,7 +478,8 @@ impl SummaryInfo {
 
     /// Sets the moment at which it was saved last. After Memory nothing changed.
     pub fn set_last_save_time(&mut self, moment: Timestamp) -> Result<(), Error>
-        ensures { Edits (set_time 13 (Some (units_of moment))) self.old self.new result }
+        ensures { EditsOrOutOfMemory
+            (set_time 13 (Some (units_of moment))) self.old self.new result }
     {
         self.put(LAST_SAVED_TIME, PropertyValue::FileTime(moment))
     }
@@ -496,7 +503,7 @@ impl SummaryInfo {
 
     /// Sets the architecture: the template is that, a semicolon, and what followed its first one. After Memory nothing changed.
     pub fn set_arch(&mut self, arch: &str) -> Result<(), Error>
-        ensures { Edits (set_arch (Some arch.now)) self.old self.new result }
+        ensures { EditsOrOutOfMemory (set_arch (Some arch.now)) self.old self.new result }
     {
         let mut template = String::from_str(self.alloc, arch)?;
         template.push_str(";")?;
@@ -506,7 +513,7 @@ impl SummaryInfo {
 
     /// Sets no architecture. After Memory nothing changed.
     pub fn clear_arch(&mut self) -> Result<(), Error>
-        ensures { Edits (set_arch None) self.old self.new result }
+        ensures { EditsOrOutOfMemory (set_arch None) self.old self.new result }
     {
         self.set_arch("")
     }
@@ -515,7 +522,7 @@ impl SummaryInfo {
     /// one error is Memory.
     pub fn languages(&self) -> Result<Vec<LanguageId>, Error>
         ensures ok { IfOk result (λ languages. languages.items ≡ languages_of self.now.props) }
-        ensures err { IfErr result (λ e. e ≡ Memory) }
+        ensures errors { IfErr result (λ e. e ≡ Memory) }
     {
         let template = self.text(TEMPLATE).unwrap_or("");
         languages_in(self.alloc, behind_semicolon(template))
@@ -524,7 +531,7 @@ impl SummaryInfo {
     /// Sets the languages: the template is what preceded its first semicolon, a semicolon, and their numbers with commas. After
     /// Memory nothing changed.
     pub fn set_languages(&mut self, languages: &[LanguageId]) -> Result<(), Error>
-        ensures { Edits (set_languages (Some languages.now)) self.old self.new result }
+        ensures { EditsOrOutOfMemory (set_languages (Some languages.now)) self.old self.new result }
     {
         let front = before_semicolon(self.text(TEMPLATE).unwrap_or(""));
         let mut template = String::from_str(self.alloc, front)?;
@@ -535,7 +542,7 @@ impl SummaryInfo {
 
     /// Sets no language. After Memory nothing changed.
     pub fn clear_languages(&mut self) -> Result<(), Error>
-        ensures { Edits (set_languages None) self.old self.new result }
+        ensures { EditsOrOutOfMemory (set_languages None) self.old self.new result }
     {
         self.set_languages(&[])
     }
@@ -544,14 +551,15 @@ impl SummaryInfo {
     pub fn keywords(&self) -> Result<Vec<String>, Error>
         ensures ok { IfOk result (λ keywords. map string_bytes keywords.items
             ≡ keywords_of self.now.props) }
-        ensures err { IfErr result (λ e. e ≡ Memory) }
+        ensures errors { IfErr result (λ e. e ≡ Memory) }
     {
         parts_in(self.alloc, self.text(KEYWORDS).unwrap_or(""))
     }
 
     /// Sets the keywords, with a semicolon and a space between each two. After Memory nothing changed.
     pub fn set_keywords(&mut self, keywords: &[String]) -> Result<(), Error>
-        ensures { Edits (set_keywords (Some (map string_bytes keywords.now))) self.old self.new
+        ensures { EditsOrOutOfMemory
+            (set_keywords (Some (map string_bytes keywords.now))) self.old self.new
             result }
     {
         let keywords = joined_parts(self.alloc, keywords)?;
@@ -560,7 +568,7 @@ impl SummaryInfo {
 
     /// Sets no keyword, which leaves the empty text. After Memory nothing changed.
     pub fn clear_keywords(&mut self) -> Result<(), Error>
-        ensures { Edits (set_keywords None) self.old self.new result }
+        ensures { EditsOrOutOfMemory (set_keywords None) self.old self.new result }
     {
         self.set_keywords(&[])
     }
@@ -577,7 +585,8 @@ impl SummaryInfo {
 
     /// Sets the identifier, as hyphenated text in upper case in braces. After Memory nothing changed.
     pub fn set_uuid(&mut self, uuid: Uuid) -> Result<(), Error>
-        ensures { Edits (set_text 9 (Some (braced_text upper uuid))) self.old self.new result }
+        ensures { EditsOrOutOfMemory
+            (set_text 9 (Some (braced_text upper uuid))) self.old self.new result }
     {
         let mut buffer = [0; 38];
         self.put_text(UUID, uuid.braced().encode_upper(&mut buffer))

@@ -21,7 +21,7 @@ use Rattle.msi_columns.specs.Cell.{width_of, cell_number, cell_value, above, rai
 use Rattle.msi_columns.specs.Column.{Column}
 use Rattle.msi_columns.specs.declared.column.ColumnType.{ColumnType}
 use Rattle.msi_columns.specs.declared.column.ColumnType.TheVariants as kind
-use Rattle.msi_tables.specs.Rows.{AreWritable, IsRead, IsStored, Row, can_write, column_bytes, first_cells, kinds_of, max_rows, numbers_from, row_at, row_cmp, row_count, rows_bytes, rows_of}
+use Rattle.msi_tables.specs.Rows.{AreRowsWritable, IsRead, IsStored, Row, can_write, column_bytes, first_cells, kinds_of, max_rows, numbers_from, row_at, row_cmp, row_count, rows_bytes, rows_of}
 use Rattle.msi_tables.specs.Held.{rows_held}
 use Rattle.msi_tables.specs.Table.{IsStoredByKeys, row_key_cmp}
 use Rattle.msi_tables.proofs.Arranged.{moved}
@@ -73,7 +73,7 @@ rows_have long (k ∷ ks) rows h =
     joined (column_bytes long k (first_cells rows)) (rows_bytes long ks (map (drop 1) rows)) (column_has long k (first_cells rows) (first_can long k ks rows h))
     (rows_have long ks (map (drop 1) rows) (later_can long k ks rows h))
 
-pub writable_rows_have_bytes : (long : Bool) (columns : List Column) (rows : List Row) → AreWritable long columns rows → HasBytes (rows_bytes long (kinds_of columns) rows)
+pub writable_rows_have_bytes : (long : Bool) (columns : List Column) (rows : List Row) → AreRowsWritable long columns rows → HasBytes (rows_bytes long (kinds_of columns) rows)
 writable_rows_have_bytes long columns rows h = rows_have long (kinds_of columns) rows h.numbers
 
 -- ---- rows that are read can be written
@@ -132,7 +132,7 @@ module _ (long : Bool) (columns : List Column) (bytes : List ℕ) (small : (i : 
   abbrev read : List Row
   read = map (row_at long count bytes 0 (kinds_of columns)) (numbers_from 0 count)
 
-  read_are : AreWritable long columns read
+  read_are : AreRowsWritable long columns read
   read_are = record {
     cells = each_of (λ row. length row ≡ length columns) (row_at long count bytes 0 (kinds_of columns)) (numbers_from 0 count)
         (λ r. row_cells long count bytes small 0 (kinds_of columns) r ∙ length-map columns (λ c. c.kind));
@@ -140,20 +140,20 @@ module _ (long : Bool) (columns : List Column) (bytes : List ℕ) (small : (i : 
         (row_can long count bytes small 0 (kinds_of columns));
   }
 
-  pub read_rows_are_writable : (rows : List Row) → rows_of long (kinds_of columns) bytes ≡ Some rows → AreWritable long columns rows
+  pub read_rows_are_writable : (rows : List Row) → rows_of long (kinds_of columns) bytes ≡ Some rows → AreRowsWritable long columns rows
   read_rows_are_writable rows is = on (nat_le count max_rows) is
     where
-      on : (b : Bool) → cond b (Some read) None ≡ Some rows → AreWritable long columns rows
+      on : (b : Bool) → cond b (Some read) None ≡ Some rows → AreRowsWritable long columns rows
       on true e = let same : read ≡ rows = cc e in rw (← same) read_are
       on false e = absurd (cc e)
 
-  pub shape_read : (r : Result (Vec (Vec ValueRef Global) Global) Error) → IsRead long (kinds_of columns) bytes r → IfOk r (λ rows. AreWritable long columns (rows_held rows.items))
+  pub shape_read : (r : Result (Vec (Vec ValueRef Global) Global) Error) → IsRead long (kinds_of columns) bytes r → IfOk r (λ rows. AreRowsWritable long columns (rows_held rows.items))
   shape_read (Ok rows) is = read_rows_are_writable (rows_held rows.items) is
   shape_read (Err e) is = tt
 
 -- ---- other orders
 
-pub moved_rows_are_writable : (long : Bool) (columns : List Column) (rows stored : List Row) → IsPermutation rows stored → AreWritable long columns rows → AreWritable long columns stored
+pub moved_rows_are_writable : (long : Bool) (columns : List Column) (rows stored : List Row) → IsPermutation rows stored → AreRowsWritable long columns rows → AreRowsWritable long columns stored
 moved_rows_are_writable long columns rows stored is h = record {
   cells = All-permutation (λ row. length row ≡ length columns) rows stored is h.cells;
   numbers = All-permutation (λ row. IsTrue (can_write long (kinds_of columns) row)) rows stored is h.numbers;

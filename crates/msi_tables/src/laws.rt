@@ -2,7 +2,7 @@
 ghost use Rattle.std.specs.Prelude.{◌≡◌, ◌<◌, ℕ, Bool, List, Some, slice_index};
 ghost use Rattle.msi_pool.specs.Pool.{Pool};
 ghost use Rattle.msi_columns.specs.Column.{Column};
-ghost use Rattle.msi_tables.specs.Rows.{AreWritable, Row, IsStored, ReadBack, kinds_of, rows_of, rows_bytes};
+ghost use Rattle.msi_tables.specs.Rows.{AreRowsWritable, Row, IsStored, ReadBack, kinds_of, rows_of, rows_bytes};
 ghost use Rattle.msi_tables.specs.Table.{IsStoredByKeys};
 ghost use Rattle.msi_columns.specs.declared.column.ColumnType.{ColumnType};
 
@@ -27,15 +27,15 @@ pub fn written_rows_are_read()
 /// in the order in which they are stored too.
 pub fn writable_rows_are_written()
     ensures written { (long : Bool) (columns : List Column) (rows : List Row)
-        → AreWritable long columns rows
+        → AreRowsWritable long columns rows
         → (bytes : List ℕ) × (rows_bytes long (kinds_of columns) rows ≡ Some bytes) }
     ensures read { (long : Bool) (columns : List Column) (bytes : List ℕ) (rows : List Row)
         → ((i : ℕ) → slice_index bytes i < 256) → rows_of long (kinds_of columns) bytes ≡ Some rows
-        → AreWritable long columns rows }
+        → AreRowsWritable long columns rows }
     ensures stored { (long : Bool) (columns : List Column) (rows stored : List Row)
-        → IsStored columns rows stored → AreWritable long columns rows
-        → AreWritable long columns stored }
+        → IsStored columns rows stored → AreRowsWritable long columns rows
+        → AreRowsWritable long columns stored }
     ensures by_keys { (long : Bool) (pool : Pool) (columns : List Column) (rows stored : List Row)
-        → IsStoredByKeys pool columns rows stored → AreWritable long columns rows
-        → AreWritable long columns stored }
+        → IsStoredByKeys pool columns rows stored → AreRowsWritable long columns rows
+        → AreRowsWritable long columns stored }
 {}

@@ -25,7 +25,7 @@ impl Table {
         ensures ok { IfOk result (λ listed. IsArranged
             (row_key_cmp string_pool.now.pool (heading_of self.now).columns) (rows_held rows.items)
             (rows_held listed.items)) }
-        ensures err { IfErr result (λ e. e ≡ Memory) }
+        ensures errors { IfErr result (λ e. e ≡ Memory) }
     {
         let mut rows = rows;
         sort_by_keys(&mut rows, self.columns(), string_pool)?;

@@ -2,7 +2,7 @@
 use Rattle.std.proofs.Common.{◌≡◌, ℕ, ◌+◌, ◌-◌, ◌*◌, ◌/◌, ◌%◌, ◌<◌, Bool, true, false, cond, List, [], ◌∷◌, ◌++◌, Option, Some, None, refl, ap, ap₂, sym, ◌∙◌, arith}
 use Rattle.std.specs.Prelude.{◌==◌, ◌&&◌}
 use Rattle.std.proofs.lemmas.Bool.Decides.{nat_tests}
-use Rattle.msi_texts.specs.StreamName.{table_prefix, is_between, letter_value, letter_of, lone, lone_of, pair, pair_of, joined_or, spelled, spelled_name, letters_of, read_back, is_marked, unmarked, name_of, is_plain, is_plain_name}
+use Rattle.msi_texts.specs.StreamName.{table_prefix, is_between, letter_value, letter_of, lone, lone_of, pair, pair_of, joined_or, spelled, spelled_name, chars_spelled_by, read_back, is_marked, unmarked, name_of, is_plain, is_plain_name}
 
 -- a letter's value is below 64, and stands for that letter
 pub letter_value-back : (c v : ℕ) → letter_value c ≡ Some v → (v < 64) × (letter_of v ≡ c)
@@ -19,24 +19,24 @@ letter_value-back c v h = go (is_between 48 57 c) (is_between 65 90 c) (is_betwe
     go false false false false false is_a is_b is_d is_e is_f h = cc
 
 -- the characters that are written stand for the letters
-lone_back : (c : ℕ) → is_plain c ≡ true → letters_of (lone c) ≡ c ∷ []
+lone_back : (c : ℕ) → is_plain c ≡ true → chars_spelled_by (lone c) ≡ c ∷ []
 lone_back c h = go (letter_value c) refl
   where
-    go : (o : Option ℕ) → letter_value c ≡ o → letters_of (lone_of o c) ≡ c ∷ []
+    go : (o : Option ℕ) → letter_value c ≡ o → chars_spelled_by (lone_of o c) ≡ c ∷ []
     go None e = grind (arith, nat_tests, h)
     go (Some v) e = let back = letter_value-back c v e in grind (arith, nat_tests, back.0, back.1)
 
-letters_of-pair : (v w p : ℕ) → v < 64 → w < 64 → 0x3800 + 64 * w + v ≡ p → letters_of p ≡ letter_of v ∷ letter_of w ∷ []
+letters_of-pair : (v w p : ℕ) → v < 64 → w < 64 → 0x3800 + 64 * w + v ≡ p → chars_spelled_by p ≡ letter_of v ∷ letter_of w ∷ []
 letters_of-pair v w p l m is =
     let low : (p - 0x3800) % 64 ≡ v = omega arith in
     let high : (p - 0x3800) / 64 ≡ w = omega arith in
     let inside : is_between 0x3800 0x47FF p ≡ true = grind (arith, nat_tests) in
     rw inside (ap₂ (λ x y. letter_of x ∷ letter_of y ∷ []) low high)
 
-pair_back : (c d p : ℕ) → pair c d ≡ Some p → letters_of p ≡ c ∷ d ∷ []
+pair_back : (c d p : ℕ) → pair c d ≡ Some p → chars_spelled_by p ≡ c ∷ d ∷ []
 pair_back c d p h = go (letter_value c) (letter_value d) refl refl h
   where
-    go : (o q : Option ℕ) → letter_value c ≡ o → letter_value d ≡ q → pair_of o q ≡ Some p → letters_of p ≡ c ∷ d ∷ []
+    go : (o q : Option ℕ) → letter_value c ≡ o → letter_value d ≡ q → pair_of o q ≡ Some p → chars_spelled_by p ≡ c ∷ d ∷ []
     go None q e f h = cc
     go (Some v) None e f h = cc
     go (Some v) (Some w) e f h =

@@ -10,8 +10,8 @@ use std::alloc::AllocError;
 /// Takes the next two bytes. Fewer are left as they are.
 pub fn read_u16(reader: &mut &[u8]) -> Result<u16, Error>
     ensures ok { IfOk result (λ n. number_at 2 reader.old.now ≡ Ok (n, reader.new.now)) }
-    ensures error { IfErr result (λ e. number_at 2 reader.old.now ≡ Err e) }
-    ensures err { OnErr result (reader.new.now ≡ reader.old.now) }
+    ensures errors { IfErr result (λ e. number_at 2 reader.old.now ≡ Err e) }
+    ensures after_error { OnErr result (reader.new.now ≡ reader.old.now) }
 {
     let bytes = *reader;
     if bytes.len() < 2 {
@@ -25,8 +25,8 @@ pub fn read_u16(reader: &mut &[u8]) -> Result<u16, Error>
 pub fn read_u24(reader: &mut &[u8]) -> Result<u32, Error>
     ensures ok { IfOk result (λ n. number_at 3 reader.old.now ≡ Ok (n, reader.new.now)) }
     ensures below { IfOk result (λ n. n < 2 ^ 24) }
-    ensures error { IfErr result (λ e. number_at 3 reader.old.now ≡ Err e) }
-    ensures err { OnErr result (reader.new.now ≡ reader.old.now) }
+    ensures errors { IfErr result (λ e. number_at 3 reader.old.now ≡ Err e) }
+    ensures after_error { OnErr result (reader.new.now ≡ reader.old.now) }
 {
     let bytes = *reader;
     if bytes.len() < 3 {
@@ -39,8 +39,8 @@ pub fn read_u24(reader: &mut &[u8]) -> Result<u32, Error>
 /// Takes the next four bytes. Fewer are left as they are.
 pub fn read_u32(reader: &mut &[u8]) -> Result<u32, Error>
     ensures ok { IfOk result (λ n. number_at 4 reader.old.now ≡ Ok (n, reader.new.now)) }
-    ensures error { IfErr result (λ e. number_at 4 reader.old.now ≡ Err e) }
-    ensures err { OnErr result (reader.new.now ≡ reader.old.now) }
+    ensures errors { IfErr result (λ e. number_at 4 reader.old.now ≡ Err e) }
+    ensures after_error { OnErr result (reader.new.now ≡ reader.old.now) }
 {
     let bytes = *reader;
     if bytes.len() < 4 {
@@ -53,7 +53,7 @@ pub fn read_u32(reader: &mut &[u8]) -> Result<u32, Error>
 /// Appends the two bytes of a number.
 pub fn write_u16(writer: &mut Vec<u8>, number: u16) -> Result<(), AllocError>
     ensures ok { OnOk result (writer.new.items ≡ writer.old.items ++ le_bytes 2 number) }
-    ensures err { OnErr result (writer.new.items ≡ writer.old.items) }
+    ensures after_error { OnErr result (writer.new.items ≡ writer.old.items) }
 {
     writer.extend_from_slice(&number.to_le_bytes())
 }
@@ -62,7 +62,7 @@ pub fn write_u16(writer: &mut Vec<u8>, number: u16) -> Result<(), AllocError>
 pub fn write_u24(writer: &mut Vec<u8>, number: u32) -> Result<(), AllocError>
     requires { number < 2 ^ 24 }
     ensures ok { OnOk result (writer.new.items ≡ writer.old.items ++ le_bytes 3 number) }
-    ensures err { OnErr result (writer.new.items ≡ writer.old.items) }
+    ensures after_error { OnErr result (writer.new.items ≡ writer.old.items) }
 {
     writer.extend_from_slice(&number.to_le_bytes()[..3])
 }
@@ -70,7 +70,7 @@ pub fn write_u24(writer: &mut Vec<u8>, number: u32) -> Result<(), AllocError>
 /// Appends the four bytes of a number.
 pub fn write_u32(writer: &mut Vec<u8>, number: u32) -> Result<(), AllocError>
     ensures ok { OnOk result (writer.new.items ≡ writer.old.items ++ le_bytes 4 number) }
-    ensures err { OnErr result (writer.new.items ≡ writer.old.items) }
+    ensures after_error { OnErr result (writer.new.items ≡ writer.old.items) }
 {
     writer.extend_from_slice(&number.to_le_bytes())
 }

@@ -59,7 +59,7 @@ impl BorrowedValue<'_> {
     /// A value of its own. The one error is Memory.
     pub fn to_value(self, alloc: Global) -> Result<Value, Error>
         ensures value { IfOk result (λ value. datum_of value ≡ borrowed_datum self.entry) }
-        ensures kinds { IfErr result (λ e. e ≡ Memory) }
+        ensures errors { IfErr result (λ e. e ≡ Memory) }
     {
         match self {
             BorrowedValue::Null => Ok(Value::Null),

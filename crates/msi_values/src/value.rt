@@ -105,7 +105,7 @@ impl Value {
     /// A copy of its own. The one error is Memory.
     pub fn clone(&self, alloc: Global) -> Result<Value, Error>
         ensures value { IfOk result (λ v. datum_of v ≡ datum_of self.now) }
-        ensures kinds { IfErr result (λ e. e ≡ Memory) }
+        ensures errors { IfErr result (λ e. e ≡ Memory) }
     {
         match self {
             Value::Null => Ok(Value::Null),
@@ -118,7 +118,7 @@ impl Value {
     /// A text. The one error is Memory.
     pub fn text(alloc: Global, words: &str) -> Result<Value, Error>
         ensures value { IfOk result (λ v. datum_of v ≡ text words.now) }
-        ensures kinds { IfErr result (λ e. e ≡ Memory) }
+        ensures errors { IfErr result (λ e. e ≡ Memory) }
     {
         Ok(Value::Str(String::from_str(alloc, words)?))
     }
@@ -126,7 +126,7 @@ impl Value {
     /// A text: a language's identifier in decimal digits. The one error is Memory.
     pub fn language(alloc: Global, language: LanguageId) -> Result<Value, Error>
         ensures value { IfOk result (λ v. datum_of v ≡ text (decimal language)) }
-        ensures kinds { IfErr result (λ e. e ≡ Memory) }
+        ensures errors { IfErr result (λ e. e ≡ Memory) }
     {
         Ok(Value::Str(language.to_string(alloc)?))
     }
@@ -136,7 +136,7 @@ impl Value {
     pub fn languages(alloc: Global, languages: &[LanguageId]) -> Result<Value, Error>
         ensures value { IfOk result (λ v. datum_of v
             ≡ text (with_commas (map decimal languages.now))) }
-        ensures kinds { IfErr result (λ e. e ≡ Memory) }
+        ensures errors { IfErr result (λ e. e ≡ Memory) }
     {
         let Some((first, others)) = languages.split_first() else {
             return Value::text(alloc, "");
@@ -149,7 +149,7 @@ impl Value {
     /// A text: the identifier, hyphenated and in upper case, in braces. The one error is Memory.
     pub fn guid(alloc: Global, uuid: Uuid) -> Result<Value, Error>
         ensures value { IfOk result (λ v. datum_of v ≡ text (braced_text upper uuid)) }
-        ensures kinds { IfErr result (λ e. e ≡ Memory) }
+        ensures errors { IfErr result (λ e. e ≡ Memory) }
     {
         let mut buffer = [0; 38];
         Value::text(alloc, uuid.braced().encode_upper(&mut buffer))

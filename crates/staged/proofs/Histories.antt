@@ -6,7 +6,7 @@ use Rattle.std.proofs.lemmas.List.Elements.{All-nil, All-pop}
 use Rattle.cfb_medium.specs.Bytes.{overwritten}
 use Rattle.staged.specs.Files.{Files, file_of, with_file}
 use Rattle.staged.specs.Device.{Torn}
-use Rattle.staged.specs.Stops.{IsCutFrom, IsKept}
+use Rattle.staged.specs.Crashes.{IsTornWriteOf, CrashKeepsFile}
 use Rattle.staged.specs.Standing.{Standing, Made, wrote, synced, standing, after_write, after_call, after_calls, MayStand, MayBeLeft, MightBeLeft, IsStanding}
 use Rattle.staged.specs.declared.device.Which.{Which}
 use Rattle.staged.specs.declared.device.Which.TheVariants.{Home, Log}
@@ -109,7 +109,7 @@ file_written which s calls c file at bytes left same fits is stands =
     (subst (λ (t : Standing). MayStand t left) (after_more which s calls c ∙ same) stands)
 
 pub left_written : (which : Which) (first : Files) (calls : List Made) (files : Files) (at : ℕ) (bytes : List ℕ) (left : Files) → at ≤ length (file_of files which) → AreStanding first calls files
-    → MayBeLeft first (calls ++ wrote which at bytes ∷ []) left → IsCutFrom which at (length bytes) (MayBeLeft first calls) left
+    → MayBeLeft first (calls ++ wrote which at bytes ∷ []) left → IsTornWriteOf which at (length bytes) (MayBeLeft first calls) left
 left_written Home first calls files at bytes left fits are may =
     let one = file_written Home (standing first.home) calls (wrote Home at bytes) files.home at bytes left.home refl fits are.0 may.home in
     (record { home = one.0; log = left.log }, record { home = one.1; log = other_left Log (standing first.log) calls (wrote Home at bytes) left.log refl may.log }, record { torn = one.2; other = refl })
@@ -121,7 +121,7 @@ file_synced : (which : Which) (s : Standing) (calls : List Made) (c : Made) (fil
     → IsStanding (after_calls which s calls) file → MayStand (after_calls which s (calls ++ c ∷ [])) left → left ≡ file
 file_synced which s calls c file left same is stands = kept_synced (after_calls which s calls) file left is (subst (λ (t : Standing). MayStand t left) (after_more which s calls c ∙ same) stands)
 
-pub kept_by_sync : (which : Which) (first : Files) (calls : List Made) (files : Files) → AreStanding first calls files → IsKept which files (MayBeLeft first (calls ++ synced which ∷ []))
+pub kept_by_sync : (which : Which) (first : Files) (calls : List Made) (files : Files) → AreStanding first calls files → CrashKeepsFile which files (MayBeLeft first (calls ++ synced which ∷ []))
 kept_by_sync Home first calls files are left may = file_synced Home (standing first.home) calls (synced Home) files.home left.home refl are.0 may.home
 kept_by_sync Log first calls files are left may = file_synced Log (standing first.log) calls (synced Log) files.log left.log refl are.1 may.log
 
@@ -151,7 +151,7 @@ might_push first calls c t left since = elim (cases_lt (length calls) since.0) [
 ]
 
 -- a write of which nothing was cut is cut too
-pub uncut : (which : Which) (at n : ℕ) (outcomes : Files → Type 0) (left : Files) → outcomes left → IsCutFrom which at n outcomes left
+pub uncut : (which : Which) (at n : ℕ) (outcomes : Files → Type 0) (left : Files) → outcomes left → IsTornWriteOf which at n outcomes left
 uncut Home at n outcomes left may = (left, may, record { torn = record { before = refl; after = refl; no_shorter = omega arith; no_longer = omega arith }; other = refl })
 uncut Log at n outcomes left may = (left, may, record { torn = record { before = refl; after = refl; no_shorter = omega arith; no_longer = omega arith }; other = refl })
 

@@ -9,7 +9,7 @@ use Rattle.staged.specs.Device.{Torn}
 use Rattle.staged.specs.declared.pages.Page.{Page}
 use Rattle.staged.proofs.Laid.{length_laid, get_laid}
 use Rattle.staged.proofs.Leads.{leads_true, leads_from}
-use Rattle.staged.specs.Steps.{GivesEither}
+use Rattle.staged.specs.Steps.{RecoversEither}
 use Rattle.staged.proofs.Homed.{nothing}
 
 -- a file over which some of these pages may have been written, in part or whole, each cut at the length
@@ -135,10 +135,10 @@ open_gate left is = (let a = (and_parts (get_or left 0 0 == 1) (nat_lt 1 (length
 
 -- while the gate over a whole log is set or closed, a recovery gives the home file, or that with the pages laid over it
 pub gate_gives : (file log : List ℕ) (pages : List Page) (len : ℕ) (left : Files) → 1 ≤ length log → logged (record { home = file; log = 1 ∷ drop 1 log }) ≡ OpenLog len pages
-    → left.home ≡ file → Torn 0 1 log left.log → GivesEither file (laid_over file pages len) left
+    → left.home ≡ file → Torn 0 1 log left.log → RecoversEither file (laid_over file pages len) left
 gate_gives file log pages len left some is home torn = go (has_open_gate left.log) refl
   where
-    go : (b : Bool) → has_open_gate left.log ≡ b → GivesEither file (laid_over file pages len) left
+    go : (b : Bool) → has_open_gate left.log ≡ b → RecoversEither file (laid_over file pages len) left
     go false gate = inl (shut left gate ∙ ap (λ (l : List ℕ). Some l) home)
     go true gate =
         let same : left.log ≡ 1 ∷ drop 1 log = gate_torn log left.log some torn ∙ ap (λ (b : ℕ). b ∷ drop 1 log) (open_gate left.log gate) in

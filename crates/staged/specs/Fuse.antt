@@ -57,7 +57,7 @@ pub record GoesByFuse {D : Type 0} (failures : D → ℕ) (IsPassed : D → D �
   pub passed : ¬ IsBlown old.fuse → failed ≡ true → failures old.inner < 2 ^ 64 - 1 → failures old.inner < failures new.inner
 
 -- by reads and syncs alone
-pub record FuseRests {D : Type 0} (rests : D → D → Type 0) (old new : FuseDevice D) : Type 0 where
+pub record OnlyReadsFuse {D : Type 0} (rests : D → D → Type 0) (old new : FuseDevice D) : Type 0 where
   pub inner : rests old.inner new.inner
   pub writes : (which : Which) → fuse_writes new which ≡ fuse_writes old which
   pub failures : fuse_failures old ≤ fuse_failures new

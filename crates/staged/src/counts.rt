@@ -72,7 +72,7 @@ impl Counts {
 
     /// Counts a failure, and gives the error that tells of it.
     pub fn fault(&mut self) -> Error
-        ensures error { result ≡ Error.Device }
+        ensures errors { result ≡ Error.Device }
         ensures counted { counted_failures self.new ≡ counted_up (counted_failures self.old) }
         ensures risen { counted_failures self.old ≤ counted_failures self.new }
         ensures writes { (which : Which)

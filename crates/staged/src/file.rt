@@ -99,7 +99,7 @@ impl MemoryFile {
         requires { at ≤ vec_len self.old.contents }
         ensures ok { OnOk result (standing_of self.new
             ≡ after_write (standing_of self.old) at bytes.now) }
-        ensures err { OnErr result (standing_of self.new ≡ standing_of self.old) }
+        ensures after_error { OnErr result (standing_of self.new ≡ standing_of self.old) }
         ensures first { first_of self.new ≡ first_of self.old }
         ensures writes { self.new.writes ≡ self.old.writes }
     {
@@ -194,7 +194,8 @@ pub fn write_file(
     ensures ok { OnOk result (contents_of home.new log.new
         ≡ with_file (contents_of home.old log.old) which
         (overwritten (file_of (contents_of home.old log.old) which) at bytes.now)) }
-    ensures err { OnErr result (contents_of home.new log.new ≡ contents_of home.old log.old) }
+    ensures after_error { OnErr result
+        (contents_of home.new log.new ≡ contents_of home.old log.old) }
     ensures home { OnOk result (standing_of home.new
         ≡ after_call Home (standing_of home.old) (wrote which at bytes.now)) }
     ensures log { OnOk result (standing_of log.new
@@ -232,7 +233,7 @@ pub fn sync_file(home: &mut MemoryFile, log: &mut MemoryFile, which: Which)
 fn overwrite(contents: &mut Vec<u8>, start: usize, bytes: &[u8]) -> Result<(), AllocError>
     requires { start ≤ vec_len contents.old }
     ensures ok { OnOk result (contents.new.items ≡ overwritten contents.old.items start bytes.now) }
-    ensures err { OnErr result (contents.new.items ≡ contents.old.items) }
+    ensures after_error { OnErr result (contents.new.items ≡ contents.old.items) }
 {
     if bytes.len() <= contents.len() - start {
         contents[start..start + bytes.len()].copy_from_slice(bytes);

@@ -2,11 +2,11 @@
 ghost use Rattle.std.specs.Prelude.{Err, ◌≡◌, ◌≢◌, ◌≤◌, ◌<◌, ◌+◌, ◌^◌, ◌↔◌, ℕ, Bool, true, IsTrue, is_err, length, IfOk, IfErr, OnOk, OnErr, refl};
 ghost use Rattle.std.proofs.Common.{arith, sym, ◌∙◌};
 ghost use Rattle.cfb_medium.specs.Bytes.{overwritten, Serves};
-ghost use Rattle.cfb_medium.specs.Calls.{Extends};
-ghost use Rattle.cfb_medium.specs.Stops.{LeavesOnly};
+ghost use Rattle.cfb_medium.specs.Calls.{Reaches};
+ghost use Rattle.cfb_medium.specs.Crashes.{CrashLeavesOnly};
 ghost use Rattle.staged.specs.Files.{file_of, with_file};
 ghost use Rattle.staged.specs.Device.{DeviceRests, IsDeviceFault, TornFile, counted_up};
-ghost use Rattle.staged.specs.Stops.{IsCutFrom, IsKept, Remembers};
+ghost use Rattle.staged.specs.Crashes.{IsTornWriteOf, CrashKeepsFile, KeepsCrashHistory};
 ghost use Rattle.staged.specs.declared.device.Which.{Which};
 
 use crate::counts::Counts;
@@ -76,7 +76,7 @@ impl<D: Device> FuseDevice<D> {
 }
 
 impl<D: Device> Device for FuseDevice<D> {
-    ghost use Rattle.staged.specs.Fuse.{inner_of, fuse_failures, fuse_writes, fuse_syncs, FuseRests, GoesByFuse, DeviceIsRead, IsOneMore, IsOneWrite, IsOneSync};
+    ghost use Rattle.staged.specs.Fuse.{inner_of, fuse_failures, fuse_writes, fuse_syncs, OnlyReadsFuse, GoesByFuse, DeviceIsRead, IsOneMore, IsOneWrite, IsOneSync};
 
     ghost content = { λ d. D.content d.inner };
 
@@ -88,13 +88,13 @@ impl<D: Device> Device for FuseDevice<D> {
 
     ghost failures = { λ d. fuse_failures d };
 
-    ghost rests = { λ a b. FuseRests D.rests a b };
+    ghost rests = { λ a b. OnlyReadsFuse D.rests a b };
 
     ghost moment = { λ d. D.moment d.inner };
 
-    ghost may_leave = { λ d left. D.may_leave d.inner left };
+    ghost crash_may_leave = { λ d left. D.crash_may_leave d.inner left };
 
-    ghost left_since = { λ d moment left. D.left_since d.inner moment left };
+    ghost crash_left_since = { λ d moment left. D.crash_left_since d.inner moment left };
 
     fn len(&mut self, which: Which) -> Result<u64, Error>
         ensures length { IsTrue (D.honest (inner_of self.old))
@@ -104,10 +104,10 @@ impl<D: Device> Device for FuseDevice<D> {
             → D.content (inner_of self.new) ≡ D.content (inner_of self.old) }
         ensures honest { D.honest (inner_of self.new) ≡ D.honest (inner_of self.old) }
         ensures failures { fuse_failures self.old ≤ fuse_failures self.new }
-        ensures rests { Extends (λ a b. FuseRests D.rests a b) self.old self.new }
+        ensures only_reads { Reaches (λ a b. OnlyReadsFuse D.rests a b) self.old self.new }
         ensures unsynced { (file : Which) → fuse_syncs self.new file ≡ fuse_syncs self.old file }
         ensures calm { OnOk result (fuse_failures self.new ≡ fuse_failures self.old) }
-        ensures fault { IfErr result (IsDeviceFault (λ d. fuse_failures d) self.old self.new) }
+        ensures errors { IfErr result (IsDeviceFault (λ d. fuse_failures d) self.old self.new) }
         ensures fuse { GoesByFuse D.failures (DeviceIsRead D.writes D.syncs) self.old self.new
             (is_err result) }
     {
@@ -129,10 +129,10 @@ impl<D: Device> Device for FuseDevice<D> {
             → D.content (inner_of self.new) ≡ D.content (inner_of self.old) }
         ensures honest { D.honest (inner_of self.new) ≡ D.honest (inner_of self.old) }
         ensures failures { fuse_failures self.old ≤ fuse_failures self.new }
-        ensures rests { Extends (λ a b. FuseRests D.rests a b) self.old self.new }
+        ensures only_reads { Reaches (λ a b. OnlyReadsFuse D.rests a b) self.old self.new }
         ensures unsynced { (file : Which) → fuse_syncs self.new file ≡ fuse_syncs self.old file }
         ensures calm { OnOk result (fuse_failures self.new ≡ fuse_failures self.old) }
-        ensures fault { IfErr result (IsDeviceFault (λ d. fuse_failures d) self.old self.new) }
+        ensures errors { IfErr result (IsDeviceFault (λ d. fuse_failures d) self.old self.new) }
         ensures fuse { GoesByFuse D.failures (DeviceIsRead D.writes D.syncs) self.old self.new
             (is_err result) }
     {
@@ -159,15 +159,15 @@ impl<D: Device> Device for FuseDevice<D> {
         ensures honest { D.honest (inner_of self.new) ≡ D.honest (inner_of self.old) }
         ensures count { IsOneMore which (fuse_writes self.old) (fuse_writes self.new) }
         ensures leaves { IsTrue (D.honest (inner_of self.old))
-            → LeavesOnly (λ d. D.moment (inner_of d))
-            (λ d moment left. D.left_since (inner_of d) moment left) self.old self.new
-            (IsCutFrom which at (length bytes.now) (D.may_leave (inner_of self.old))) }
-        ensures remembers { Remembers (λ d. D.moment (inner_of d))
-            (λ d moment left. D.left_since (inner_of d) moment left) self.old self.new }
+            → CrashLeavesOnly (λ d. D.moment (inner_of d))
+            (λ d moment left. D.crash_left_since (inner_of d) moment left) self.old self.new
+            (IsTornWriteOf which at (length bytes.now) (D.crash_may_leave (inner_of self.old))) }
+        ensures remembers { KeepsCrashHistory (λ d. D.moment (inner_of d))
+            (λ d moment left. D.crash_left_since (inner_of d) moment left) self.old self.new }
         ensures failures { fuse_failures self.old ≤ fuse_failures self.new }
         ensures unsynced { (file : Which) → fuse_syncs self.new file ≡ fuse_syncs self.old file }
         ensures calm { OnOk result (fuse_failures self.new ≡ fuse_failures self.old) }
-        ensures fault { IfErr result (IsDeviceFault (λ d. fuse_failures d) self.old self.new) }
+        ensures errors { IfErr result (IsDeviceFault (λ d. fuse_failures d) self.old self.new) }
         ensures fuse { GoesByFuse D.failures (IsOneWrite D.writes D.syncs which) self.old self.new
             (is_err result) }
     {
@@ -186,15 +186,16 @@ impl<D: Device> Device for FuseDevice<D> {
             → D.content (inner_of self.new) ≡ D.content (inner_of self.old) }
         ensures durable { IsTrue (D.honest (inner_of self.old))
             → OnOk result
-            (IsKept which (D.content (inner_of self.new)) (D.may_leave (inner_of self.new))) }
+            (CrashKeepsFile which (D.content (inner_of self.new))
+            (D.crash_may_leave (inner_of self.new))) }
         ensures honest { D.honest (inner_of self.new) ≡ D.honest (inner_of self.old) }
         ensures failures { fuse_failures self.old ≤ fuse_failures self.new }
-        ensures rests { Extends (λ a b. FuseRests D.rests a b) self.old self.new }
+        ensures only_reads { Reaches (λ a b. OnlyReadsFuse D.rests a b) self.old self.new }
         ensures synced { fuse_syncs self.new which ≡ counted_up (fuse_syncs self.old which) }
         ensures others { (other : Which) → other ≢ which
             → fuse_syncs self.new other ≡ fuse_syncs self.old other }
         ensures calm { OnOk result (fuse_failures self.new ≡ fuse_failures self.old) }
-        ensures fault { IfErr result (IsDeviceFault (λ d. fuse_failures d) self.old self.new) }
+        ensures errors { IfErr result (IsDeviceFault (λ d. fuse_failures d) self.old self.new) }
         ensures fuse { GoesByFuse D.failures (IsOneSync D.writes D.syncs which) self.old self.new
             (is_err result) }
     {

@@ -7,7 +7,7 @@ ghost use Rattle.staged.specs.Held.{listed};
 ghost use Rattle.staged.specs.Log.{pages_of_runs, has_runs, run_count};
 ghost use Rattle.staged.specs.LogWritten.{run_bytes};
 ghost use Rattle.staged.specs.Pages.{HoldsPage, page_at};
-ghost use Rattle.staged.specs.Steps.{Steps, BehindGate};
+ghost use Rattle.staged.specs.Steps.{MakesOnlyWrites, IsBehindLogFlag};
 ghost use Rattle.staged.specs.declared.device.Which.{Which};
 
 use crate::layout::{MOST, RUN_HEAD, RUNS};
@@ -64,7 +64,7 @@ pub fn write_runs<D: Device>(device: &mut D, pages: &Pages, buffer: &mut [u8]) -
     requires headed { IsTrue (D.honest device.old) → 25 ≤ length (D.content device.old).log }
     ensures honest { D.honest device.new ≡ D.honest device.old }
     ensures failures { D.failures device.old ≤ D.failures device.new }
-    ensures fault { IfErr result (IsDeviceFault D.failures device.old device.new) }
+    ensures errors { IfErr result (IsDeviceFault D.failures device.old device.new) }
     ensures home { IsTrue (D.honest device.old)
         → OnOk result ((D.content device.new).home ≡ (D.content device.old).home) }
     ensures head { IsTrue (D.honest device.old)
@@ -74,7 +74,7 @@ pub fn write_runs<D: Device>(device: &mut D, pages: &Pages, buffer: &mut [u8]) -
         (drop 25 (D.content device.new).log) ≡ true)
         × (pages_of_runs true (run_count (listed pages.now))
         (drop 25 (D.content device.new).log) ≡ listed pages.now)) }
-    ensures steps { Steps D.Device Which.Log BehindGate device.old device.new }
+    ensures steps { MakesOnlyWrites D.Device Which.Log IsBehindLogFlag device.old device.new }
     ensures home_writes { OnOk result (D.writes device.new Which.Home
         ≡ D.writes device.old Which.Home) }
     ensures log_writes { OnOk result (D.writes device.new Which.Log
@@ -119,14 +119,14 @@ fn write_run<D: Device>(
     requires room { 12 + 512 * count ≤ length buffer.old }
     ensures honest { D.honest device.new ≡ D.honest device.old }
     ensures failures { D.failures device.old ≤ D.failures device.new }
-    ensures fault { IfErr result (IsDeviceFault D.failures device.old device.new) }
+    ensures errors { IfErr result (IsDeviceFault D.failures device.old device.new) }
     ensures written { IsTrue (D.honest device.old)
         → OnOk result (D.content device.new
         ≡ record (D.content device.old) {
           log = overwritten (D.content device.old).log place
               (run_bytes first count (take (512 * count) (drop 12 buffer.old)));
         }) }
-    ensures steps { Steps D.Device Which.Log BehindGate device.old device.new }
+    ensures steps { MakesOnlyWrites D.Device Which.Log IsBehindLogFlag device.old device.new }
     ensures home_writes { D.writes device.new Which.Home ≡ D.writes device.old Which.Home }
     ensures log_writes { D.writes device.new Which.Log
         ≡ counted_up (D.writes device.old Which.Log) }

@@ -3,7 +3,7 @@ ghost use Rattle.std.specs.Prelude.{◌≡◌, ◌≤◌, ◌<◌, ◌+◌, ◌*
 ghost use Rattle.std.specs.List.{starts_with};
 ghost use Rattle.staged.specs.Device.{IsDeviceFault};
 ghost use Rattle.staged.specs.Log.{number_of, front, pages_told, pages_for, has_head, first_magic, magic};
-ghost use Rattle.staged.specs.Reads.{ReadsOnly};
+ghost use Rattle.staged.specs.Reads.{OnlyReadsDevice};
 ghost use Rattle.staged.specs.Recovery.{IsMalformedOrFault};
 ghost use Rattle.staged.specs.Walk.{IsWholeHead, IsWithin, FindsRun};
 
@@ -32,13 +32,13 @@ pub struct Run {
 /// Reads the head of a log of this length.
 pub fn read_head<D: Device>(device: &mut D, log_len: u64) -> Result<Head, Error>
     requires { IsTrue (D.honest device.old) → log_len ≡ length (D.content device.old).log }
-    ensures reads { ReadsOnly D.Device device.old device.new }
+    ensures reads { OnlyReadsDevice D.Device device.old device.new }
     ensures least { IfOk result (λ head. 25 ≤ head.log_len) }
     ensures head { IsTrue (D.honest device.old)
         → IfOk result (IsWholeHead (D.content device.old).log) }
     ensures malformed { IsTrue (D.honest device.old) → IsErrOf result Error.InvalidData
         → has_head (D.content device.old).log ≡ false }
-    ensures refusal { IfErr result (IsMalformedOrFault D.failures device.old device.new) }
+    ensures errors { IfErr result (IsMalformedOrFault D.failures device.old device.new) }
 {
     if log_len < RUNS {
         return Err(Error::InvalidData);
@@ -84,8 +84,8 @@ fn number_in(bytes: &[u8], place: usize) -> u64
 /// The run at a place of a log: none where it has no page, doesn't stand whole in the log, or has a page past the length.
 pub fn read_run<D: Device>(device: &mut D, head: &Head, place: u64) -> Result<Option<Run>, Error>
     requires { place ≤ head.now.log_len }
-    ensures reads { ReadsOnly D.Device device.old device.new }
-    ensures fault { IfErr result (IsDeviceFault D.failures device.old device.new) }
+    ensures reads { OnlyReadsDevice D.Device device.old device.new }
+    ensures errors { IfErr result (IsDeviceFault D.failures device.old device.new) }
     ensures within { IfOk result (λ run. IfSome run (IsWithin head.now)) }
     ensures behind { IfOk result (λ run. IfSome run (λ r. place ≤ r.place)) }
     ensures found { IsTrue (D.honest device.old)
@@ -135,8 +135,8 @@ fn is_run(first: u64, count: u64, room: u64, end: u64) -> bool
 // What stands before the pages of a run: the number of the first, and how many they are.
 fn read_front<D: Device>(device: &mut D, counted: bool, place: u64) -> Result<(u64, u64), Error>
     requires { place + front counted < 2 ^ 64 }
-    ensures reads { ReadsOnly D.Device device.old device.new }
-    ensures fault { IfErr result (IsDeviceFault D.failures device.old device.new) }
+    ensures reads { OnlyReadsDevice D.Device device.old device.new }
+    ensures errors { IfErr result (IsDeviceFault D.failures device.old device.new) }
     ensures first { IsTrue (D.honest device.old)
         → place + front counted ≤ length (D.content device.old).log
         → IfOk result (λ told. told.0
@@ -156,8 +156,8 @@ fn read_front<D: Device>(device: &mut D, counted: bool, place: u64) -> Result<(u
 
 // The same where the run tells how many pages it has.
 fn read_counted<D: Device>(device: &mut D, place: u64) -> Result<(u64, u64), Error>
-    ensures reads { ReadsOnly D.Device device.old device.new }
-    ensures fault { IfErr result (IsDeviceFault D.failures device.old device.new) }
+    ensures reads { OnlyReadsDevice D.Device device.old device.new }
+    ensures errors { IfErr result (IsDeviceFault D.failures device.old device.new) }
     ensures first { IsTrue (D.honest device.old)
         → place + 12 ≤ length (D.content device.old).log
         → IfOk result (λ told. told.0

@@ -2,7 +2,7 @@
 ghost use Rattle.std.specs.Prelude.{◌≡◌, ◌⊎◌, ◌≤◌, ◌<◌, ◌+◌, ◌^◌, List, IsTrue, length, OnOk, IfErr};
 ghost use Rattle.staged.specs.Device.{IsDeviceFault};
 ghost use Rattle.staged.specs.Pages.{Shows};
-ghost use Rattle.staged.specs.Reads.{ReadsOnly};
+ghost use Rattle.staged.specs.Reads.{OnlyReadsDevice};
 ghost use Rattle.staged.specs.declared.pages.Page.{Page};
 ghost use Rattle.staged_view.specs.Pieces.{AreOf, AreWithin, IsPartOf, PiecesRise};
 
@@ -20,8 +20,8 @@ pub fn read_over<D: Device>(
     requires fits { length buffer.old ≡ 0 ⊎ at + length buffer.old < 2 ^ 64 }
     requires rising { PiecesRise pieces.now }
     requires bounds { AreWithin pieces.now }
-    ensures reads { ReadsOnly D.Device device.old device.new }
-    ensures fault { IfErr result (IsDeviceFault D.failures device.old device.new) }
+    ensures reads { OnlyReadsDevice D.Device device.old device.new }
+    ensures errors { IfErr result (IsDeviceFault D.failures device.old device.new) }
     ensures read { IsTrue (D.honest device.old) → (pages : List Page)
         → AreOf pages (D.content device.old).log pieces.now
         → OnOk result (Shows (D.content device.old).home pages at (length buffer.old) buffer.new) }
@@ -52,8 +52,8 @@ fn read_part<D: Device>(
 ) -> Result<(), Error>
     requires long { length bytes.old ≡ part.count }
     requires told { IsPartOf pieces.now place part }
-    ensures reads { ReadsOnly D.Device device.old device.new }
-    ensures fault { IfErr result (IsDeviceFault D.failures device.old device.new) }
+    ensures reads { OnlyReadsDevice D.Device device.old device.new }
+    ensures errors { IfErr result (IsDeviceFault D.failures device.old device.new) }
     ensures read { IsTrue (D.honest device.old) → (pages : List Page)
         → AreOf pages (D.content device.old).log pieces.now
         → OnOk result

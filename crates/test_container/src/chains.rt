@@ -1,9 +1,11 @@
 //! Sectors, FAT and chains of files in memory.
 use crate::shapes::{has_tables_of, init_of, word_of};
+use cfb_chain_io::{
+    free_chain, overwrite_chain, read_chain, set_chain_len, write_chain, write_word,
+};
 use cfb_chains::{Chain, Links};
 use cfb_fat::{Allocator, read_difat, use_a_chain};
 use cfb_medium::{Error, MemoryMedium, Version};
-use cfb_owned::{free_chain, overwrite_chain, read_chain, set_chain_len, write_chain, write_word};
 use cfb_sectors::{
     END_OF_CHAIN, FREE_SECTOR, Header, NewSector, Sector, SectorInit, Sectors, Validation, u32_at,
 };

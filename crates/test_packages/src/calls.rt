@@ -2,7 +2,7 @@
 use cfb::CaseMapper;
 use cfb_medium::{Error, Medium};
 use msi::{Package, StreamReader};
-use msi_meaning::PackageType;
+use msi_spec::PackageType;
 use std::alloc::Global;
 use test_support::{Survivor, runs};
 

@@ -2,7 +2,7 @@
 use Rattle.std.proofs.Common.{inl, inr, ◌⊎◌, ⊎_elim, ◌≡◌, ℕ, ◌-◌, ◌<◌, List, [], ◌∷◌, ◌++◌, length, get_or, Option, Some, refl, ◌∙◌, ap, arith, length-append}
 use Rattle.std.proofs.lemmas.Bool.{cases_lt}
 use Rattle.std.proofs.lemmas.List.{get_or_append_left, get_or-append_right}
-use Rattle.cfb_medium.specs.Stops.{LeavesOnly}
+use Rattle.cfb_medium.specs.Crashes.{CrashLeavesOnly}
 use Rattle.test_support.specs.declared.survivor.Survivor.{Survivor}
 use Rattle.test_support.specs.Survivor.{lists_kept, AreLeftFrom, IsKeptAlone}
 
@@ -15,7 +15,7 @@ alone_kept m bytes before is first = λ x from.
 
 -- a commit adds the bytes, and leaves them alone
 pub commit_leaves : (a b : Survivor) (bytes : List ℕ) → a.first < length (lists_kept a) → lists_kept b ≡ lists_kept a ++ bytes ∷ [] → b.first ≡ length (lists_kept a)
-    → LeavesOnly (λ m. m.first) AreLeftFrom a b (λ left. AreLeftFrom a a.first left ⊎ (left ≡ Some bytes))
+    → CrashLeavesOnly (λ m. m.first) AreLeftFrom a b (λ left. AreLeftFrom a a.first left ⊎ (left ≡ Some bytes))
 commit_leaves a b bytes within is first = record {
   later = omega (arith, within, first);
   each = λ x from. either a.first x from;

@@ -86,9 +86,9 @@ impl ReadMedium for FailingMedium {
 
     ghost moment = { λ _. 0 };
 
-    ghost may_leave = { λ _ _. ⊤ };
+    ghost crash_may_leave = { λ _ _. ⊤ };
 
-    ghost left_since = { λ _ _ _. ⊤ };
+    ghost crash_left_since = { λ _ _ _. ⊤ };
 
     fn len(&mut self) -> Result<u64, Error> {
         if self.fuse.blows() {

@@ -25,7 +25,7 @@ impl Survivor {
     pub fn new(alloc: Global) -> Result<Self, Error>
         ensures bytes { IfOk result (λ m. ⟦<Survivor as ReadMedium>⟧.bytes m ≡ []) }
         ensures left { IfOk result (λ m. IsKeptAlone m []) }
-        ensures error { IfErr result (λ e. e ≡ Memory) }
+        ensures errors { IfErr result (λ e. e ≡ Memory) }
     {
         let mut kept = Vec::new(alloc);
         kept.push(Vec::new(alloc))?;
@@ -41,8 +41,8 @@ impl Survivor {
     fn keep(&mut self) -> Result<(), Error>
         ensures ok { OnOk result (lists_kept self.new
             ≡ lists_kept self.old ++ memory_bytes self.old.shown ∷ []) }
-        ensures err { OnErr result (self.new.kept.items ≡ self.old.kept.items) }
-        ensures error { IfErr result (λ e. e ≡ Memory) }
+        ensures after_error { OnErr result (self.new.kept.items ≡ self.old.kept.items) }
+        ensures errors { IfErr result (λ e. e ≡ Memory) }
         ensures first { self.new.first ≡ self.old.first }
         ensures shown { memory_bytes self.new.shown ≡ memory_bytes self.old.shown }
     {
@@ -67,9 +67,9 @@ impl ReadMedium for Survivor {
 
     ghost moment = { λ m. m.first };
 
-    ghost may_leave = { λ m. AreLeftFrom m m.first };
+    ghost crash_may_leave = { λ m. AreLeftFrom m m.first };
 
-    ghost left_since = { λ m t. AreLeftFrom m t };
+    ghost crash_left_since = { λ m t. AreLeftFrom m t };
 
     fn len(&mut self) -> Result<u64, Error> {
         self.shown.len()

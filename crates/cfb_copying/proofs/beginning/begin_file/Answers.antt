@@ -19,18 +19,18 @@ returns-in-Ok-clause-begun c =
     let fat : fat_of it ≡ take (count_of (sectors_of it)) (fat_in v (new_file v) (0 ∷ [])) =
     did.fat refl ∙ ap (λ n. take n (fat_in sectors.version (memory_bytes sectors.inner) c.push.new.self.items)) (sym did.sectors.count) ∙ ap (λ u. take (count_of (sectors_of it)) (fat_in u (memory_bytes sectors.inner) c.push.new.self.items)) made.version
     ∙ ap (λ l. take (count_of (sectors_of it)) (fat_in v l c.push.new.self.items)) held ∙ ap (λ l. take (count_of (sectors_of it)) (fat_in v (new_file v) l)) tables in
-    new_begun v it (did.sectors.failed ∙ made.live) refl (did.sectors.version ∙ made.version) (did.sectors.bytes refl ∙ held) (did.tables.0 ∙ c.new.ensures.items) (did.tables.1 ∙ tables) fat
+    new_begun v it (did.sectors.failed ∙ made.not_failed) refl (did.sectors.version ∙ made.version) (did.sectors.bytes refl ∙ held) (did.tables.0 ∙ c.new.ensures.items) (did.tables.1 ∙ tables) fat
 
-pub returns-clause-error : goal.returns-clause-error
-returns-clause-error c =
+pub returns-clause-errors : goal.returns-clause-errors
+returns-clause-errors c =
     let did = c.in-Err.ensures in
     let e = c.in-Err.error in
     let made = c.new-sectors.ensures in
     let sectors = c.new-sectors.result in
     let bytes = c.in_ok-bytes.bytes in
     let tables : c.push.new.self.items ≡ 0 ∷ [] = c.in_ok-push.ensures.items ∙ ap (λ l. l ++ 0 ∷ []) c.new-fat_sectors.ensures.items in
-    let live = made.live in
-    only_memory e did.fault
+    let live = made.not_failed in
+    only_memory e did.errors
     (λ is. did.missing is (first_counted c.args.version bytes.items c.push.new.self.items c.len-len.result (count_of sectors) c.in_ok-bytes.ensures.bytes (c.len-len.ensures ∙ bytes.ok.0) made.count tables))
     (λ is. let wrong = (did.cause sectors.inner tt).device is (omega arith) in omega (arith, wrong))
     (λ is. never_earlier sectors.failed live ((did.cause sectors.inner tt).earlier is))

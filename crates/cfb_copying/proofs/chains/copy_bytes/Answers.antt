@@ -4,12 +4,12 @@ use Rattle.cfb_medium.specs.Versions.{sector_len}
 use Rattle.cfb_chains.specs.LinkViews.{ids_of, links_version}
 use Rattle.cfb_chains.proofs.ChainWriting.{length-joined}
 use Rattle.cfb_fat.specs.Keeping.{rests_cause}
-use Rattle.cfb_fat.specs.Resting.{all_rest_refl, all_rest_then}
+use Rattle.cfb_fat.specs.OnlyReads.{all_rest_refl, all_rest_then}
 use Rattle.cfb_fat.specs.Tables.{bytes_of, version_of}
-use Rattle.cfb_owned.specs.Chains.{content_of, Overwrites}
-use Rattle.cfb_owned.proofs.GoingOn.{goes_cause, goes_then, rests_go_on}
-use Rattle.cfb_owned.proofs.Leaning.{keeps_refl, keeps_then}
-use Rattle.cfb_owned.proofs.WrittenParts.{nothing_over}
+use Rattle.cfb_chain_io.specs.ChainEffects.{content_of, Overwrites}
+use Rattle.cfb_chain_io.proofs.GoingOn.{goes_cause, goes_then, rests_go_on}
+use Rattle.cfb_chain_io.proofs.Leaning.{keeps_refl, keeps_then}
+use Rattle.cfb_chain_io.proofs.WrittenParts.{nothing_over}
 use Rattle.cfb_copying.proofs.Pieces.{content_rests, links_rest, piece_then}
 use Rattle.cfb_copying.proofs.chains.copy_bytes.Goals as goal
 
@@ -24,20 +24,20 @@ copy-init g c = record {
   copied = λ has chain. nothing_over 0 c.args.target.now c.args.to.now chain;
 }
 
-pub returns-in-Err-clause-rests : goal.returns-in-Err-clause-rests
-returns-in-Err-clause-rests g c = all_rest_then c.args.source.now c.copy.source c.read_chain.new.allocator c.copy.invariant.rests c.in-Err.ensures.rests
+pub returns-in-Err-clause-only_reads : goal.returns-in-Err-clause-only_reads
+returns-in-Err-clause-only_reads g c = all_rest_then c.args.source.now c.copy.source c.read_chain.new.allocator c.copy.invariant.rests c.in-Err.ensures.only_reads
 
 pub returns-in-Err-clause-cause : goal.returns-in-Err-clause-cause
 returns-in-Err-clause-cause g c = inl (rests_cause c.args.source.now c.copy.source c.read_chain.new.allocator c.in-Err.error c.copy.invariant.rests c.in-Err.ensures.cause)
 
-pub returns-in-Err-overwrite_chain-clause-rests : goal.returns-in-Err-overwrite_chain-clause-rests
-returns-in-Err-overwrite_chain-clause-rests g c = all_rest_then c.args.source.now c.copy.source c.read_chain.new.allocator c.copy.invariant.rests c.in_default.ensures.rests
+pub returns-in-Err-overwrite_chain-clause-only_reads : goal.returns-in-Err-overwrite_chain-clause-only_reads
+returns-in-Err-overwrite_chain-clause-only_reads g c = all_rest_then c.args.source.now c.copy.source c.read_chain.new.allocator c.copy.invariant.rests c.in_default.ensures.only_reads
 
-pub returns-in-Err-overwrite_chain-clause-goes_on : goal.returns-in-Err-overwrite_chain-clause-goes_on
-returns-in-Err-overwrite_chain-clause-goes_on g c = goes_then c.args.target.now c.copy.target c.overwrite_chain.new.allocator c.copy.invariant.goes c.in-Err-overwrite_chain.ensures.goes_on
+pub returns-in-Err-overwrite_chain-clause-invariants : goal.returns-in-Err-overwrite_chain-clause-invariants
+returns-in-Err-overwrite_chain-clause-invariants g c = goes_then c.args.target.now c.copy.target c.overwrite_chain.new.allocator c.copy.invariant.goes c.in-Err-overwrite_chain.ensures.invariants
 
 pub returns-in-Err-overwrite_chain-clause-cause : goal.returns-in-Err-overwrite_chain-clause-cause
-returns-in-Err-overwrite_chain-clause-cause g c = inr (goes_cause c.args.target.now c.copy.target c.overwrite_chain.new.allocator c.in-Err-overwrite_chain.error c.copy.invariant.goes c.copy.invariant.live c.in-Err-overwrite_chain.ensures.answers.cause)
+returns-in-Err-overwrite_chain-clause-cause g c = inr (goes_cause c.args.target.now c.copy.target c.overwrite_chain.new.allocator c.in-Err-overwrite_chain.error c.copy.invariant.goes c.copy.invariant.live c.in-Err-overwrite_chain.ensures.error_contract.cause)
 
 pub copy-preserved : goal.copy-preserved
 copy-preserved g c =
@@ -58,9 +58,9 @@ copy-preserved g c =
     record {
       most = omega (arith, count, more);
       wide = simp (length-append, length-drop) (omega (arith, buffer, few, inv.wide));
-      live = did.answers.live.1;
-      rests = all_rest_then s r c.read_chain.new.allocator inv.rests c.in_default.ensures.rests;
-      goes = goes_then a m b inv.goes did.goes_on;
+      live = did.error_contract.live.1;
+      rests = all_rest_then s r c.read_chain.new.allocator inv.rests c.in_default.ensures.only_reads;
+      goes = goes_then a m b inv.goes did.invariants;
       tables = keeps_then a m b inv.tables did.tables;
       copied = λ has chain.
           let src = content_of s from in

@@ -1,6 +1,6 @@
 use Rattle.std.proofs.Common.{◌≡◌, ◌≤◌, ◌-◌, false, length, take}
-use Rattle.cfb_fat.specs.Tables.{has_failed_here, AllRests, KeepsTables}
-use Rattle.cfb_owned.specs.Chains.{content_of, GoesOn, HasChain, HasLinks, Overwrites}
+use Rattle.cfb_fat.specs.Tables.{has_failed_here, OnlyReadsAllocator, KeepsTables}
+use Rattle.cfb_chain_io.specs.ChainEffects.{content_of, KeepsFileInvariants, HasDataChain, HasFatChain, Overwrites}
 use Rattle.cfb_copying.proofs.chains.copy_bytes.Given as goal
 
 abbrev pub invariant-copy : goal.invariant-copy
@@ -8,10 +8,10 @@ invariant-copy g l = record {
   most : l.at ≤ l.len;
   wide : length l.piece ≡ 4096;
   live : has_failed_here l.target ≡ false;
-  rests : AllRests {g = g.F.ReadMedium} l.fn.source l.source;
-  goes : GoesOn {g = g.T.ReadMedium} l.fn.target l.target;
+  rests : OnlyReadsAllocator {g = g.F.ReadMedium} l.fn.source l.source;
+  goes : KeepsFileInvariants {g = g.T.ReadMedium} l.fn.target l.target;
   tables : KeepsTables {g = g.T.ReadMedium} l.fn.target l.target;
-  copied : HasLinks {g = g.F.ReadMedium} l.fn.source l.fn.from → HasChain {g = g.T.ReadMedium} l.fn.target l.fn.to
+  copied : HasFatChain {g = g.F.ReadMedium} l.fn.source l.fn.from → HasDataChain {g = g.T.ReadMedium} l.fn.target l.fn.to
       → Overwrites {g = g.T.ReadMedium} 0 (take l.at (content_of l.fn.source l.fn.from)) l.fn.target l.target l.fn.to;
 }
 

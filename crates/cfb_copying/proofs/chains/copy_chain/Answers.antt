@@ -7,25 +7,25 @@ use Rattle.cfb_chains.specs.Positions.{sectors_for}
 use Rattle.cfb_chains.proofs.ChainWriting.{length-joined}
 use Rattle.cfb_fat.specs.Tables.{bytes_of, version_of}
 use Rattle.cfb_fat.specs.Growing.{IsLean}
-use Rattle.cfb_owned.specs.Chains.{content_of, RunsOut}
-use Rattle.cfb_owned.proofs.Leaning.{keeps_lean}
-use Rattle.cfb_owned.proofs.GoingOn.{goes_cause, goes_then}
+use Rattle.cfb_chain_io.specs.ChainEffects.{content_of, AllocatorRunsOut}
+use Rattle.cfb_chain_io.proofs.Leaning.{keeps_lean}
+use Rattle.cfb_chain_io.proofs.GoingOn.{goes_cause, goes_then}
 use Rattle.cfb_copying.proofs.Pieces.{as_long, chain_copied}
 use Rattle.cfb_copying.proofs.PutChains.{not_full}
 use Rattle.cfb_copying.proofs.chains.copy_chain.Goals as goal
 use Rattle.cfb_chains.proofs.Extending.{whole_sectors}
 
-pub returns-in-Err-copy_bytes-clause-goes_on : goal.returns-in-Err-copy_bytes-clause-goes_on
-returns-in-Err-copy_bytes-clause-goes_on g c = goes_then _ _ _ c.in_default.ensures.goes_on c.in-Err-copy_bytes.ensures.goes_on
+pub returns-in-Err-copy_bytes-clause-invariants : goal.returns-in-Err-copy_bytes-clause-invariants
+returns-in-Err-copy_bytes-clause-invariants g c = goes_then _ _ _ c.in_default.ensures.invariants c.in-Err-copy_bytes.ensures.invariants
 
 pub returns-in-Err-copy_bytes-clause-cause : goal.returns-in-Err-copy_bytes-clause-cause
 returns-in-Err-copy_bytes-clause-cause g c = ⊎_elim
     (λ read. inl read)
-    (λ written. inr (goes_cause c.args.target.now c.set_chain_len.new.allocator c.copy_bytes.new.target c.in-Err-copy_bytes.error c.in_default.ensures.goes_on c.in_default.ensures.answers.live.1 written))
+    (λ written. inr (goes_cause c.args.target.now c.set_chain_len.new.allocator c.copy_bytes.new.target c.in-Err-copy_bytes.error c.in_default.ensures.invariants c.in_default.ensures.error_contract.live.1 written))
     c.in-Err-copy_bytes.ensures.cause
 
-pub returns-clause-goes_on : goal.returns-clause-goes_on
-returns-clause-goes_on g c = goes_then _ _ _ c.in_default.ensures.goes_on c.in_default-copy_bytes.ensures.goes_on
+pub returns-clause-invariants : goal.returns-clause-invariants
+returns-clause-invariants g c = goes_then _ _ _ c.in_default.ensures.invariants c.in_default-copy_bytes.ensures.invariants
 
 pub returns-clause-copied : goal.returns-clause-copied
 returns-clause-copied g c = λ has chain.
@@ -43,7 +43,7 @@ returns-clause-copied g c = λ has chain.
     (c.in_default.ensures.size ∙ ap (λ n. sectors_for (links_version c.args.to.now) n) c.chain_len.ensures.len ∙ ap (λ v. sectors_for v (length from * sector_len (links_version c.args.from.now))) (sym c.in_default.ensures.version))
     (c.in_default.ensures.version ∙ c.requires.version)) in
     let other = length-joined (version_of m) (bytes_of m) ids in
-    chain_copied _ _ (content_of s c.args.from.now) c.args.target.now m c.copy_bytes.new.target c.args.to.now c.set_chain_len.new.links (omega (arith, c.requires.shorter, many)) c.in_default.ensures.goes_on.version grown did
+    chain_copied _ _ (content_of s c.args.from.now) c.args.target.now m c.copy_bytes.new.target c.args.to.now c.set_chain_len.new.links (omega (arith, c.requires.shorter, many)) c.in_default.ensures.invariants.version grown did
     (one ∙ ap (λ v. length from * sector_len v) (sym has.version) ∙ long ∙ ap (λ v. length ids * sector_len v) (grown.chain.has.version) ∙ sym other)
 
 -- as many sectors as the other chain has
@@ -53,13 +53,13 @@ wanted v w len count is same = ap (sectors_for v) is ∙ ap (λ u. sectors_for u
 pub returns-in-Err-clause-stopped : goal.returns-in-Err-clause-stopped
 returns-in-Err-clause-stopped g c = λ full.
     let many = wanted (links_version c.args.to.now) (links_version c.args.from.now) c.chain_len.result (length (ids_of c.args.from.now)) c.chain_len.ensures.len c.requires.version in
-    subst (λ n. RunsOut {g = g.T.ReadMedium} (length (ids_of c.args.to.now)) n c.args.target.now) many (c.in-Err.ensures.stopped full)
+    subst (λ n. AllocatorRunsOut {g = g.T.ReadMedium} (length (ids_of c.args.to.now)) n c.args.target.now) many (c.in-Err.ensures.stopped full)
 
 pub returns-in-Err-copy_bytes-clause-stopped : goal.returns-in-Err-copy_bytes-clause-stopped
-returns-in-Err-copy_bytes-clause-stopped g c = λ full. let error : c.in-Err-copy_bytes.error ≡ Full = cc in absurd (not_full c.in-Err-copy_bytes.error c.in-Err-copy_bytes.ensures.fault error)
+returns-in-Err-copy_bytes-clause-stopped g c = λ full. let error : c.in-Err-copy_bytes.error ≡ Full = cc in absurd (not_full c.in-Err-copy_bytes.error c.in-Err-copy_bytes.ensures.errors error)
 
-pub returns-in-Err-copy_bytes-clause-fault : goal.returns-in-Err-copy_bytes-clause-fault
-returns-in-Err-copy_bytes-clause-fault g c = ⊎_elim (λ fault. inl fault) (λ place. inr (inl place)) c.in-Err-copy_bytes.ensures.fault
+pub returns-in-Err-copy_bytes-clause-errors : goal.returns-in-Err-copy_bytes-clause-errors
+returns-in-Err-copy_bytes-clause-errors g c = ⊎_elim (λ fault. inl fault) (λ place. inr (inl place)) c.in-Err-copy_bytes.ensures.errors
 
 pub returns-clause-lean : goal.returns-clause-lean
 returns-clause-lean g c = λ some others lean.

@@ -1,7 +1,7 @@
 use Rattle.std.proofs.Common.{◌≡◌, ap, subst, sym, ◌∙◌}
 use Rattle.cfb_directory.specs.Entries.{entries_in}
 use Rattle.cfb_directory.specs.Views.{entries_held}
-use Rattle.cfb_live.specs.Live.{live_of}
+use Rattle.cfb_tree_edits.specs.Live.{live_of}
 use Rattle.cfb_mini.specs.Views.{allocator_of}
 use Rattle.cfb_soundness.specs.Entries.{AreTreeEntries}
 use Rattle.cfb_copying.specs.Steps.{HasCopy, IsOriginal}
@@ -33,12 +33,12 @@ returns-in-Ok-clause-strict g c = λ letters tree m.
     (c.in-Ok.ensures.copied (live_of mini) m.who (subst (IsOriginal (allocator_of mini) (live_of mini) m.who) (sym c.deref.ensures.value) (original mini letters tree m ids all)) entries
     (c.mini_fat_start-mini_fat_at.ensures ∙ mini_fat_first mini letters tree m) (size_fits mini letters tree m c.root_len-root_len.result c.root_len-root_len.ensures.fits)))
 
-pub returns-clause-refused : goal.returns-clause-refused
-returns-clause-refused g c = λ letters tree m.
+pub returns-clause-refused_only_if : goal.returns-clause-refused_only_if
+returns-clause-refused_only_if g c = λ letters tree m.
     let mini = c.args.mini.now in
     let ids = c.in_ok-ids.ids.items in
     let all = subst (λ d. AreTreeEntries (entries_held d) ids) c.directory-2.ensures c.in_ok-ids.ensures.all in
     let entries : (live_of mini).entries ≡ entries_in c.deref_mut.result.now =
     held_entries mini letters tree m ∙ ap entries_held (sym c.directory-3.ensures) ∙ sym c.dir_entries.ensures ∙ ap entries_in (sym (c.deref_mut.ensures.value ∙ c.in_ok-entries.ensures)) in
-    c.in-Err.ensures.refused (live_of mini) m.who (subst (IsOriginal (allocator_of mini) (live_of mini) m.who) (sym c.deref.ensures.value) (original mini letters tree m ids all)) entries
+    c.in-Err.ensures.refused_only_if (live_of mini) m.who (subst (IsOriginal (allocator_of mini) (live_of mini) m.who) (sym c.deref.ensures.value) (original mini letters tree m ids all)) entries
     (c.mini_fat_start-mini_fat_at.ensures ∙ mini_fat_first mini letters tree m) (size_fits mini letters tree m c.root_len-root_len.result c.root_len-root_len.ensures.fits)

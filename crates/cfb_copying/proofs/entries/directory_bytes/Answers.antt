@@ -18,8 +18,8 @@ write-preserved c =
     (take_more es i e c.write-test.true ∙ ap (λ x. take i es ++ x ∷ []) (sym c.entry-item.is)) c.in_ok-write_to.ensures.ok c.write.invariant.size c.write.invariant.held in
     record { size = more.0; held = more.1 }
 
-pub returns-then-entry-stream_len_mask-clause-refused : goal.returns-then-entry-stream_len_mask-clause-refused
-returns-then-entry-stream_len_mask-clause-refused c = λ fits.
+pub returns-then-entry-stream_len_mask-clause-refused_only_if : goal.returns-then-entry-stream_len_mask-clause-refused_only_if
+returns-then-entry-stream_len_mask-clause-refused_only_if c = λ fits.
     let e = c.entry-item.result in
     let small = fits c.write.entry-index (entry_in e) (entry_found c.args.entries.now c.write.entry-index e c.write-test.true c.entry-item.is) in
     let mask = c.stream_len_mask.ensures in

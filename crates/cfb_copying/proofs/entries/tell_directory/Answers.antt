@@ -1,15 +1,15 @@
 use Rattle.std.proofs.Common.{ap, ◌∙◌}
 use Rattle.cfb_chains.specs.LinkViews.{ids_of}
 use Rattle.cfb_fat.specs.Tables.{bytes_of}
-use Rattle.cfb_meaning.specs.Means.{directory_count}
+use Rattle.cfb_spec.specs.Means.{directory_count}
 use Rattle.std.specs.Prelude.{length}
 use Rattle.cfb_copying.proofs.WordsTold.{count_told, number_now}
 use Rattle.cfb_copying.proofs.entries.tell_directory.Goals as goal
 
-pub returns-clause-told : goal.returns-clause-told
-returns-clause-told g c = λ directory mini_fat own bytes made.
+pub returns-clause-answer : goal.returns-clause-answer
+returns-clause-answer g c = λ directory mini_fat own bytes made.
     let did = c.in_default.ensures in
-    count_told directory mini_fat c.args.target.now c.write_word.new.allocator own bytes made c.write_word.ensures.goes_on did.answers.live.1 (did.leaves made.honest)
+    count_told directory mini_fat c.args.target.now c.write_word.new.allocator own bytes made c.write_word.ensures.invariants did.error_contract.live.1 (did.leaves made.honest)
 
 pub returns-clause-counted : goal.returns-clause-counted
 returns-clause-counted g c = λ honest.

@@ -1,13 +1,13 @@
 use Rattle.std.proofs.Common.{◌≡◌, ◌+◌, ap, arith, length, true, Err}
 use Rattle.cfb_sectors.specs.Sectors.{end_of_chain}
-use Rattle.cfb_owners.specs.Owners.{stream_owner}
+use Rattle.cfb_ownership.specs.Owners.{stream_owner}
 use Rattle.cfb_copying.specs.Steps.{sectors_among}
 use Rattle.cfb_copying.proofs.NextStreams.{entry_found, next_can, next_long, next_never, next_short, next_there}
 use Rattle.cfb_copying.proofs.PutChains.{no_full}
 use Rattle.cfb_copying.proofs.streams.copy_stream.Goals as goal
 
-pub returns-then-id-entries-clause-refused : goal.returns-then-id-entries-clause-refused
-returns-then-id-entries-clause-refused g c = λ s who ids done minis original next has.
+pub returns-then-id-entries-clause-refused_only_if : goal.returns-then-id-entries-clause-refused_only_if
+returns-then-id-entries-clause-refused_only_if g c = λ s who ids done minis original next has.
     let there = next_there c.args.source.now c.args.target.now s who ids done minis c.args.entries.now c.args.id original next has in absurd (omega (arith, there, c.if-id-entries.true))
 
 pub returns-then-not-is_long-clause-copied : goal.returns-then-not-is_long-clause-copied
@@ -17,14 +17,14 @@ returns-then-not-is_long-clause-copied g c = λ s who ids done minis original ne
     (entry_found c.args.entries.now c.args.id e c.if-id-entries.false c.index-entries-id.is)
     (λ kind long. let wrong = c.is_long.ensures.1 (kind, long) in let is = c.if-not-is_long.true in cc)
 
-pub returns-in-Err-clause-refused : goal.returns-in-Err-clause-refused
-returns-in-Err-clause-refused g c = λ s who ids done minis original next has.
+pub returns-in-Err-clause-refused_only_if : goal.returns-in-Err-clause-refused_only_if
+returns-in-Err-clause-refused_only_if g c = λ s who ids done minis original next has.
     let e = c.index-entries-id.result in
     let both = c.is_long.ensures.0 c.if-not-is_long.false in
     let can = next_can c.args.source.now c.args.target.now s who ids done minis c.args.entries.now c.args.id original next has e (entry_found c.args.entries.now c.args.id e c.if-id-entries.false c.index-entries-id.is) both.0 both.1 in
     no_full c.in-Err.error
     (λ full. next_never c.args.source.now c.args.target.now s who ids done minis c.args.entries.now c.args.id original next has (c.in-Err.ensures.stopped (ap Err full) (who.sectors (stream_owner c.args.id)) can.chain))
-    (c.in-Err.ensures.refused 1 end_of_chain (stream_owner c.args.id) has.own has.bytes (who.sectors (stream_owner c.args.id))
+    (c.in-Err.ensures.refused_only_if 1 end_of_chain (stream_owner c.args.id) has.own has.bytes (who.sectors (stream_owner c.args.id))
     can)
 
 pub returns-clause-copied : goal.returns-clause-copied

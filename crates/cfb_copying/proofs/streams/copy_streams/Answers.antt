@@ -1,8 +1,8 @@
 use Rattle.std.proofs.Common.{◌+◌, ◌++◌, ◌∷◌, [], refl, subst, sym, take}
 use Rattle.std.proofs.lemmas.List.{take_all, take_more}
 use Rattle.cfb_directory.specs.Entries.{entries_in}
-use Rattle.cfb_fat.specs.Resting.{all_rest_refl, all_rest_then}
-use Rattle.cfb_owned.proofs.GoingOn.{goes_then, rests_go_on}
+use Rattle.cfb_fat.specs.OnlyReads.{all_rest_refl, all_rest_then}
+use Rattle.cfb_chain_io.proofs.GoingOn.{goes_then, rests_go_on}
 use Rattle.cfb_copying.specs.Steps.{HasCopied}
 use Rattle.cfb_copying.proofs.Originals.{once_of, original_rests}
 use Rattle.cfb_copying.proofs.StepsThen.{steps_done, steps_fail}
@@ -28,12 +28,12 @@ copy-preserved g c =
           (next_of ids i (once_of c.args.source.now s who ids original) c.copy-test.true) (inv.copied s who minis original has));
     }
 
-pub returns-in-Err-clause-refused : goal.returns-in-Err-clause-refused
-returns-in-Err-clause-refused g c = λ s who minis original has.
+pub returns-in-Err-clause-refused_only_if : goal.returns-in-Err-clause-refused_only_if
+returns-in-Err-clause-refused_only_if g c = λ s who minis original has.
     let inv = c.copy.invariant in
     let i = c.copy.id-index in
     let ids = c.args.ids.now in
-    c.in-Err.ensures.refused s who ids (take i ids) minis (original_rests c.args.source.now c.copy.source s who ids inv.rests original)
+    c.in-Err.ensures.refused_only_if s who ids (take i ids) minis (original_rests c.args.source.now c.copy.source s who ids inv.rests original)
     (next_of ids i (once_of c.args.source.now s who ids original) c.copy-test.true) (inv.copied s who minis original has)
 
 pub returns-in-Err-clause-steps : goal.returns-in-Err-clause-steps

@@ -7,7 +7,7 @@ use Rattle.cfb_directory.specs.declared.walk.Link.{Link}
 use Rattle.cfb_directory.specs.Walk.{links_at}
 use Rattle.cfb_directory.proofs.Counting.{unset, unset_less}
 use Rattle.cfb_tree.specs.EntryViews.{entry_in}
-use Rattle.cfb_tree.specs.LetterViews.{letters_of}
+use Rattle.cfb_tree.specs.CaseTableViews.{case_table_of}
 use Rattle.cfb_directory.specs.Entries.{entries_in}
 use Rattle.cfb_directory.proofs.Walking.{Walked, begun, dropped, unfit, repeated, at_within, went, arrived, first_marked, kind_of_root}
 use Rattle.cfb_directory.proofs.walk.is_tree.Goals as goal
@@ -26,9 +26,9 @@ walk-init c =
       found_in entries 0 c.in-Some.root.now at.3.0 at.1,
       taken,
       kind_of_root c.args.validation root taken,
-      subst (λ links. Walked c.args.validation (letters_of c.args.letters.now) directory root.child links (set c.in_ok-seen.seen.items 0 true)) (sym pending)
-          (subst (λ ms. Walked c.args.validation (letters_of c.args.letters.now) directory root.child (record { at = root.child; low = None; high = None } ∷ []) ms) (sym marks)
-          (begun c.args.validation (letters_of c.args.letters.now) directory root.child (set (replicate (length entries) false) 0 true) (simp (length-set, length-replicate, length-map) refl) (first_marked (length entries) at.3.0))),
+      subst (λ links. Walked c.args.validation (case_table_of c.args.letters.now) directory root.child links (set c.in_ok-seen.seen.items 0 true)) (sym pending)
+          (subst (λ ms. Walked c.args.validation (case_table_of c.args.letters.now) directory root.child (record { at = root.child; low = None; high = None } ∷ []) ms) (sym marks)
+          (begun c.args.validation (case_table_of c.args.letters.now) directory root.child (set (replicate (length entries) false) 0 true) (simp (length-set, length-replicate, length-map) refl) (first_marked (length entries) at.3.0))),
     )
 
 pub walk-preserved-then-link : goal.walk-preserved-then-link
@@ -40,8 +40,8 @@ walk-preserved-then-link c =
       found,
       taken,
       kind,
-      dropped c.args.validation (letters_of c.args.letters.now) (entries_in c.args.entries.now) root.child links link c.walk.seen.items c.if-link.true
-          (subst (λ xs. Walked c.args.validation (letters_of c.args.letters.now) (entries_in c.args.entries.now) root.child xs c.walk.seen.items) c.in-Some-pop.ensures.items walked),
+      dropped c.args.validation (case_table_of c.args.letters.now) (entries_in c.args.entries.now) root.child links link c.walk.seen.items c.if-link.true
+          (subst (λ xs. Walked c.args.validation (case_table_of c.args.letters.now) (entries_in c.args.entries.now) root.child xs c.walk.seen.items) c.in-Some-pop.ensures.items walked),
     )
 
 pub returns-then-not-branch-2-clause-none : goal.returns-then-not-branch-2-clause-none
@@ -49,8 +49,8 @@ returns-then-not-branch-2-clause-none c = λ is tree it.
     let (root, found, taken, kind, walked) = c.walk.invariant in
     let wrong = c.in_ok-is_fit.ensures.fit.1 in
     let no = c.if-not-branch-2.true in
-    unfit c.args.validation (letters_of c.args.letters.now) (entries_in c.args.entries.now) root c.pop.new.self.items c.in-Some-pop.link c.walk.seen.items found
-    (subst (λ xs. Walked c.args.validation (letters_of c.args.letters.now) (entries_in c.args.entries.now) root.child xs c.walk.seen.items) c.in-Some-pop.ensures.items walked)
+    unfit c.args.validation (case_table_of c.args.letters.now) (entries_in c.args.entries.now) root c.pop.new.self.items c.in-Some-pop.link c.walk.seen.items found
+    (subst (λ xs. Walked c.args.validation (case_table_of c.args.letters.now) (entries_in c.args.entries.now) root.child xs c.walk.seen.items) c.in-Some-pop.ensures.items walked)
     c.if-link.false (λ fit. let never : true ≡ false = sym (wrong fit) ∙ no in absurd (cc)) tree it
 
 fewer : (marks : List Bool) (id : ℕ) (links : List Link) (link : Link) (pending more later : List Link) → id < length marks → get_or marks id false ≡ false → pending ≡ links ++ link ∷ []
@@ -65,14 +65,14 @@ pub index-requires : goal.index-requires
 index-requires c =
     let (root, found, taken, kind, walked) = c.walk.invariant in
     let fit = c.in_ok-is_fit.ensures.fit.0 c.if-not-branch-2.false in
-    let within = at_within c.args.validation (letters_of c.args.letters.now) (entries_in c.args.entries.now) root.child c.walk.pending.items c.walk.seen.items c.in-Some-pop.link.low c.in-Some-pop.link.high c.in-Some-pop.link.at walked fit in
+    let within = at_within c.args.validation (case_table_of c.args.letters.now) (entries_in c.args.entries.now) root.child c.walk.pending.items c.walk.seen.items c.in-Some-pop.link.low c.in-Some-pop.link.high c.in-Some-pop.link.at walked fit in
     omega (arith, within, c.walk.seen.ok.0)
 
 pub index_mut-requires-in-Some-pop : goal.index_mut-requires-in-Some-pop
 index_mut-requires-in-Some-pop c =
     let (root, found, taken, kind, walked) = c.walk.invariant in
     let fit = c.in_ok-is_fit.ensures.fit.0 c.if-not-branch-2.false in
-    let within = at_within c.args.validation (letters_of c.args.letters.now) (entries_in c.args.entries.now) root.child c.walk.pending.items c.walk.seen.items c.in-Some-pop.link.low c.in-Some-pop.link.high c.in-Some-pop.link.at walked fit in
+    let within = at_within c.args.validation (case_table_of c.args.letters.now) (entries_in c.args.entries.now) root.child c.walk.pending.items c.walk.seen.items c.in-Some-pop.link.low c.in-Some-pop.link.high c.in-Some-pop.link.at walked fit in
     omega (arith, within, c.walk.seen.ok.0)
 
 pub bounds-entries-id : goal.bounds-entries-id
@@ -86,9 +86,9 @@ returns-then-index-clause-none c = λ is tree it.
     let fit = c.in_ok-is_fit.ensures.fit.0 c.if-not-branch-2.false in
     let link = c.in-Some-pop.link in
     let marks = c.walk.seen.items in
-    let within = at_within c.args.validation (letters_of c.args.letters.now) (entries_in c.args.entries.now) root.child c.walk.pending.items marks link.low link.high link.at walked fit in
-    repeated c.args.validation (letters_of c.args.letters.now) (entries_in c.args.entries.now) root c.pop.new.self.items link marks found
-    (subst (λ xs. Walked c.args.validation (letters_of c.args.letters.now) (entries_in c.args.entries.now) root.child xs marks) c.in-Some-pop.ensures.items walked)
+    let within = at_within c.args.validation (case_table_of c.args.letters.now) (entries_in c.args.entries.now) root.child c.walk.pending.items marks link.low link.high link.at walked fit in
+    repeated c.args.validation (case_table_of c.args.letters.now) (entries_in c.args.entries.now) root c.pop.new.self.items link marks found
+    (subst (λ xs. Walked c.args.validation (case_table_of c.args.letters.now) (entries_in c.args.entries.now) root.child xs marks) c.in-Some-pop.ensures.items walked)
     c.if-link.false within (marked_by marks link.at c.index.result.now true within c.index.ensures c.if-index.true) tree it
 
 pub walk-smaller : goal.walk-smaller
@@ -97,7 +97,7 @@ walk-smaller c =
     let fit = c.in_ok-is_fit.ensures.fit.0 c.if-not-branch-2.false in
     let link = c.in-Some-pop.link in
     let marks = c.walk.seen.items in
-    let within = at_within c.args.validation (letters_of c.args.letters.now) (entries_in c.args.entries.now) root.child c.walk.pending.items marks link.low link.high link.at walked fit in
+    let within = at_within c.args.validation (case_table_of c.args.letters.now) (entries_in c.args.entries.now) root.child c.walk.pending.items marks link.low link.high link.at walked fit in
     let clear = marked_by marks link.at c.index.result.now false within c.index.ensures c.if-index.false in
     fewer marks link.at c.pop.new.self.items link c.walk.pending.items (links_at (entry_in c.index-entries-id.result) link) c.push_links.new.pending.items
     within clear c.in-Some-pop.ensures.items c.in_ok-push_links.ensures.added refl
@@ -106,7 +106,7 @@ pub walk-preserved : goal.walk-preserved
 walk-preserved c =
     let (root, found, taken, kind, walked) = c.walk.invariant in
     let v = c.args.validation in
-    let letters = letters_of c.args.letters.now in
+    let letters = case_table_of c.args.letters.now in
     let directory = entries_in c.args.entries.now in
     let fit = c.in_ok-is_fit.ensures.fit.0 c.if-not-branch-2.false in
     let link = c.in-Some-pop.link in
@@ -128,7 +128,7 @@ pub returns-clause-taken : goal.returns-clause-taken
 returns-clause-taken c = λ is.
     let (root, found, taken, kind, walked) = c.walk.invariant in
     let v = c.args.validation in
-    let letters = letters_of c.args.letters.now in
+    let letters = case_table_of c.args.letters.now in
     let directory = entries_in c.args.entries.now in
     let empty : c.walk.pending.items ≡ [] = nil_from_length c.walk.pending.items (omega (arith, c.walk.pending.ok.0, c.in_default-pop.ensures.cases.0)) in
     arrived v letters directory root c.walk.seen.items found taken kind (subst (λ xs. Walked v letters directory root.child xs c.walk.seen.items) empty walked)

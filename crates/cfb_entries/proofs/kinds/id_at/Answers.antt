@@ -2,7 +2,7 @@ use Rattle.std.proofs.Common.{[], ◌≡◌, ◌++◌, ◌∷◌, ◌∙◌, ap,
 use Rattle.std.specs.Prelude.{chars, Some, None}
 use Rattle.cfb_siblings.specs.Places.{path_to, LeadsTo}
 use Rattle.cfb_tree.specs.EntryViews.{entry_in}
-use Rattle.cfb_tree.specs.LetterViews.{letters_of}
+use Rattle.cfb_tree.specs.CaseTableViews.{case_table_of}
 use Rattle.cfb_entries.specs.Parts.{parts_left}
 use Rattle.cfb_entries.proofs.Following.{came_above, came_all, came_behind, came_dropped, came_first, came_further, name_stays, nothing_above, nothing_below, one_longer, told_behind, told_stays}
 use Rattle.cfb_entries.proofs.Turning.{fewer_behind, no_turn, no_turn_later}
@@ -25,7 +25,7 @@ parts-preserved-then-is_dropped c = (
 pub returns-then-is_back : goal.returns-then-is_back
 returns-then-is_back c = λ tree h.
     let (names, came, leads) = c.parts.invariant.1 tree h in
-    nothing_above (letters_of c.args.letters.now) tree c.args.path.now
+    nothing_above (case_table_of c.args.letters.now) tree c.args.path.now
     (came_above c.args.path.now names (parts_left c.parts.parts) c.in-Some.part.now (parts_left c.in-Some.later) came c.in-Some.ensures
     (sym c.is_dropped.ensures ∙ c.if-is_dropped.false) (sym c.is_back.ensures ∙ c.if-is_back.true))
 
@@ -52,7 +52,7 @@ parts-preserved-in-Some-behind c =
 
 pub returns-in_default-child_of : goal.returns-in_default-child_of
 returns-in_default-child_of c = λ tree h.
-    let letters = letters_of c.args.letters.now in
+    let letters = case_table_of c.args.letters.now in
     let part = c.in-Some.part.now in
     let later = parts_left c.in-Some.later in
     let never = told_stays parts_left c.behind_back-more.result.0 later c.behind_back-more.ensures.behind c.in_default-behind.is in
@@ -72,7 +72,7 @@ parts-preserved c =
             names ++ part ∷ [],
             came_further c.args.path.now names (parts_left c.parts.parts) part later came c.in-Some.ensures (sym c.is_dropped.ensures ∙ c.if-is_dropped.false)
                 (sym c.is_back.ensures ∙ c.if-is_back.false) never,
-            subst (λ path. LeadsTo (letters_of c.args.letters.now) (map entry_in c.args.entries.now) 0 path c.in-Some-child_of.child) (one_longer names part)
+            subst (λ path. LeadsTo (case_table_of c.args.letters.now) (map entry_in c.args.entries.now) 0 path c.in-Some-child_of.child) (one_longer names part)
                 (c.in-Some-child_of.ensures tree h (map chars names) leads),
           ),
     )

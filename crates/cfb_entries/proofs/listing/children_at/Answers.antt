@@ -1,8 +1,8 @@
 use Rattle.std.proofs.Common.{map, ◌∙◌, ap, sym, inl, inr, subst, chars}
-use Rattle.cfb_meaning.specs.TreeRules.{read_storage, children_shown}
+use Rattle.cfb_spec.specs.TreeRules.{read_storage, children_shown}
 use Rattle.cfb_siblings.specs.Places.{path_of}
 use Rattle.cfb_tree.specs.EntryViews.{entry_in}
-use Rattle.cfb_tree.specs.LetterViews.{letters_of}
+use Rattle.cfb_tree.specs.CaseTableViews.{case_table_of}
 use Rattle.cfb_tree.specs.Objects.{inside_of}
 use Rattle.cfb_entries.specs.Holding.{IsHeldAt}
 use Rattle.cfb_entries.specs.Listed.{listed_in, prefix_text}
@@ -11,14 +11,14 @@ use Rattle.cfb_entries.proofs.Found.{found}
 use Rattle.cfb_entries.proofs.Telling.{refusal, read_lost, read_refused, read_answer}
 use Rattle.cfb_entries.proofs.listing.children_at.Goals as goal
 
-pub returns-in-Err-clause-told : goal.returns-in-Err-clause-told
-returns-in-Err-clause-told c = λ tree h.
-    let letters = letters_of c.args.letters.now in
-    (tt, refusal letters tree (λ p. read_storage p) (read_lost letters tree) c.args.path.now c.in-Err.error (c.in-Err.ensures.refused tree h))
+pub returns-in-Err-clause-answer : goal.returns-in-Err-clause-answer
+returns-in-Err-clause-answer c = λ tree h.
+    let letters = case_table_of c.args.letters.now in
+    (tt, refusal letters tree (λ p. read_storage p) (read_lost letters tree) c.args.path.now c.in-Err.error (c.in-Err.ensures.refused_only_if tree h))
 
-pub returns-then-is_stream-clause-told : goal.returns-then-is_stream-clause-told
-returns-then-is_stream-clause-told c = λ tree h.
-    let letters = letters_of c.args.letters.now in
+pub returns-then-is_stream-clause-answer : goal.returns-then-is_stream-clause-answer
+returns-then-is_stream-clause-answer c = λ tree h.
+    let letters = case_table_of c.args.letters.now in
     let directory = map entry_in c.args.entries.now in
     let names = c.in-Ok.found.0.items in
     let e = entry_in c.in-Ok.found.1.now in
@@ -26,9 +26,9 @@ returns-then-is_stream-clause-told c = λ tree h.
     let it = found letters directory tree h (path_of names) id e leads at in
     (tt, inr (ap (answer_at letters tree (λ p. read_storage p)) named ∙ read_refused letters tree directory (path_of names) id e at it (sym c.is_stream.ensures ∙ c.if-is_stream.true)))
 
-pub returns-in-Ok-children-clause-told : goal.returns-in-Ok-children-clause-told
-returns-in-Ok-children-clause-told c = λ tree h.
-    let letters = letters_of c.args.letters.now in
+pub returns-in-Ok-children-clause-answer : goal.returns-in-Ok-children-clause-answer
+returns-in-Ok-children-clause-answer c = λ tree h.
+    let letters = case_table_of c.args.letters.now in
     let directory = map entry_in c.args.entries.now in
     let names = c.in-Ok.found.0.items in
     let e = entry_in c.in-Ok.found.1.now in
@@ -39,14 +39,14 @@ returns-in-Ok-children-clause-told c = λ tree h.
       (
         children_shown (path_of names) (inside_of it.object),
         ap (answer_at letters tree (λ p. read_storage p)) named ∙ read_answer letters tree directory (path_of names) id e at it (sym c.is_stream.ensures ∙ c.if-is_stream.false),
-        ap (map listed_in) c.new.ensures ∙ (c.in-Ok-children.ensures.told (path_of names) (inside_of it.object) held prefix).0,
+        ap (map listed_in) c.new.ensures ∙ (c.in-Ok-children.ensures.answer (path_of names) (inside_of it.object) held prefix).0,
       ),
       tt,
     )
 
-pub returns-clause-told : goal.returns-clause-told
-returns-clause-told c = λ tree h.
-    let letters = letters_of c.args.letters.now in
+pub returns-clause-answer : goal.returns-clause-answer
+returns-clause-answer c = λ tree h.
+    let letters = case_table_of c.args.letters.now in
     let directory = map entry_in c.args.entries.now in
     let names = c.in-Ok.found.0.items in
     let e = entry_in c.in-Ok.found.1.now in
@@ -54,4 +54,4 @@ returns-clause-told c = λ tree h.
     let it = found letters directory tree h (path_of names) id e leads at in
     let held = subst (λ k. IsHeldAt directory k (inside_of it.object)) (sym c.children_link.ensures) it.held in
     let prefix = ap chars c.deref-2.ensures ∙ c.in_ok-prefix.ensures.text ∙ ap (λ ns. prefix_text (path_of ns)) c.deref.ensures.value in
-    (tt, inl ((c.in-Err-children.ensures.told (path_of names) (inside_of it.object) held prefix).1))
+    (tt, inl ((c.in-Err-children.ensures.answer (path_of names) (inside_of it.object) held prefix).1))

@@ -1,22 +1,22 @@
 use Rattle.std.proofs.Common.{map, ◌≢◌, ◌∙◌, [], ap, arith, inl, inr}
-use Rattle.cfb_meaning.specs.TreeRules.{entry, shown}
+use Rattle.cfb_spec.specs.TreeRules.{entry, shown}
 use Rattle.cfb_siblings.specs.Places.{path_of}
 use Rattle.cfb_tree.specs.EntryViews.{entry_in}
-use Rattle.cfb_tree.specs.LetterViews.{letters_of}
+use Rattle.cfb_tree.specs.CaseTableViews.{case_table_of}
 use Rattle.cfb_entries.specs.Listed.{listed_at, prefix_text}
 use Rattle.cfb_entries.specs.Rules.{answer_at}
 use Rattle.cfb_entries.proofs.Found.{found}
 use Rattle.cfb_entries.proofs.Telling.{both_cases, refusal, entry_lost, entry_answer, root_is, below_is, object_name, no_names, not_empty, some_names}
 use Rattle.cfb_entries.proofs.listing.entry_at.Goals as goal
 
-pub returns-in-Err-clause-told : goal.returns-in-Err-clause-told
-returns-in-Err-clause-told c = λ tree h.
-    let letters = letters_of c.args.letters.now in
-    (tt, refusal letters tree (λ p. entry p) (entry_lost letters tree) c.args.path.now c.in-Err.error (c.in-Err.ensures.refused tree h))
+pub returns-in-Err-clause-answer : goal.returns-in-Err-clause-answer
+returns-in-Err-clause-answer c = λ tree h.
+    let letters = case_table_of c.args.letters.now in
+    (tt, refusal letters tree (λ p. entry p) (entry_lost letters tree) c.args.path.now c.in-Err.error (c.in-Err.ensures.refused_only_if tree h))
 
-pub returns-then-is_empty-clause-told : goal.returns-then-is_empty-clause-told
-returns-then-is_empty-clause-told c = λ tree h.
-    let letters = letters_of c.args.letters.now in
+pub returns-then-is_empty-clause-answer : goal.returns-then-is_empty-clause-answer
+returns-then-is_empty-clause-answer c = λ tree h.
+    let letters = case_table_of c.args.letters.now in
     let directory = map entry_in c.args.entries.now in
     let names = c.in-Ok.found.0.items in
     let e = entry_in c.in-Ok.found.1.now in
@@ -30,11 +30,11 @@ returns-then-is_empty-clause-told c = λ tree h.
       ap (answer_at letters tree (λ p. entry p)) named ∙ entry_answer letters tree directory (path_of names) id e at it,
       is ∙ root_is letters tree directory (path_of names) id e at it none_there,
     ))
-    (λ error memory. inl memory) c.root.ensures.listed c.root.ensures.error
+    (λ error memory. inl memory) c.root.ensures.listed c.root.ensures.errors
 
-pub returns-clause-told : goal.returns-clause-told
-returns-clause-told c = λ tree h.
-    let letters = letters_of c.args.letters.now in
+pub returns-clause-answer : goal.returns-clause-answer
+returns-clause-answer c = λ tree h.
+    let letters = case_table_of c.args.letters.now in
     let directory = map entry_in c.args.entries.now in
     let names = c.in-Ok.found.0.items in
     let e = entry_in c.in-Ok.found.1.now in
@@ -49,4 +49,4 @@ returns-clause-told c = λ tree h.
           ∙ below_is letters tree directory (path_of names) id e at it some name has,
     ))
     (λ error wrong. elim wrong [ inl memory ↦ inl memory | inr (data_wrong, none_there) ↦ absurd (none_there _ (object_name letters tree directory (path_of names) id e at it some)) ])
-    c.at.ensures.listed c.at.ensures.error
+    c.at.ensures.listed c.at.ensures.errors

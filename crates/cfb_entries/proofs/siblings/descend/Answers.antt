@@ -4,8 +4,8 @@ use Rattle.cfb_tree.specs.EntryViews.{entry_in}
 use Rattle.cfb_entries.proofs.Sides.{Down, down_room, down_there, down_more}
 use Rattle.cfb_entries.proofs.siblings.descend.Goals as goal
 
-pub returns-then-len-entries-clause-told : goal.returns-then-len-entries-clause-told
-returns-then-len-entries-clause-told c = λ here rest siblings kept fits.
+pub returns-then-len-entries-clause-answer : goal.returns-then-len-entries-clause-answer
+returns-then-len-entries-clause-answer c = λ here rest siblings kept fits.
     absurd (omega (
       arith,
       down_room (map entry_in c.args.entries.now) c.down.above.items c.down.at (here ++ rest) c.down-test.true (c.down.invariant here rest siblings kept),
@@ -16,8 +16,8 @@ returns-then-len-entries-clause-told c = λ here rest siblings kept fits.
       length-append here rest,
     ))
 
-pub returns-in_default-clause-told : goal.returns-in_default-clause-told
-returns-in_default-clause-told c = λ here rest siblings kept fits.
+pub returns-in_default-clause-answer : goal.returns-in_default-clause-answer
+returns-in_default-clause-answer c = λ here rest siblings kept fits.
     absurd (down_there (map entry_in c.args.entries.now) c.down.above.items c.down.at (here ++ rest) c.down-test.true
     (lost_in c.args.entries.now c.down.at c.in_default.ensures.lookup.3) (c.down.invariant here rest siblings kept))
 

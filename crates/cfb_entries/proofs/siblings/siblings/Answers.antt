@@ -12,10 +12,10 @@ walk-init c = λ all siblings fits.
     let directory = map entry_in c.args.entries.now in
     let none_above = subst (λ xs. Above directory xs []) (sym c.new-above.ensures.items) refl in
     gone_first directory c.new-ids.result.items c.descend.new.above.items all c.new-ids.ensures.items
-    (c.in_default.ensures.told all [] siblings none_above (omega (arith, fits))).0
+    (c.in_default.ensures.answer all [] siblings none_above (omega (arith, fits))).0
 
-pub returns-in_default-get-clause-told : goal.returns-in_default-get-clause-told
-returns-in_default-get-clause-told c = λ all siblings fits.
+pub returns-in_default-get-clause-answer : goal.returns-in_default-get-clause-answer
+returns-in_default-get-clause-answer c = λ all siblings fits.
     let directory = map entry_in c.args.entries.now in
     let id = c.in-Some.id in
     let it = subst (λ xs. Gone directory c.walk.ids.items xs all) c.in-Some.ensures.items (c.walk.invariant all siblings fits) in
@@ -35,10 +35,10 @@ walk-preserved c = λ all siblings fits.
     let room = gone_fits directory c.walk.ids.items c.pop.new.self.items id all it in
     subst (λ xs. Gone directory xs c.descend-in-Some.new.above.items all) (sym c.in_ok-push.ensures.items)
     (gone_more directory c.walk.ids.items c.pop.new.self.items c.descend-in-Some.new.above.items id all it
-    (c.in_default-descend.ensures.told next.rights next.later rights next.kept (omega (arith, room, fits))).0)
+    (c.in_default-descend.ensures.answer next.rights next.later rights next.kept (omega (arith, room, fits))).0)
 
-pub returns-in-Err-descend-clause-told : goal.returns-in-Err-descend-clause-told
-returns-in-Err-descend-clause-told c = λ all siblings fits.
+pub returns-in-Err-descend-clause-answer : goal.returns-in-Err-descend-clause-answer
+returns-in-Err-descend-clause-answer c = λ all siblings fits.
     let directory = map entry_in c.args.entries.now in
     let id = c.in-Some.id in
     let at = c.in-Some-get.ensures.lookup in
@@ -48,5 +48,5 @@ returns-in-Err-descend-clause-told c = λ all siblings fits.
     let same : next.entry ≡ entry_in e = Some_same (sym next.found ∙ found_in c.args.entries.now id e at.3.0 at.1) in
     let rights : Siblings directory e.right_sibling next.rights = subst (λ y. Siblings directory y.right next.rights) same next.siblings in
     let room = gone_fits directory c.walk.ids.items c.pop.new.self.items id all it in
-    let told = c.in-Err-descend.ensures.told next.rights next.later rights next.kept (omega (arith, room, fits)) in
+    let told = c.in-Err-descend.ensures.answer next.rights next.later rights next.kept (omega (arith, room, fits)) in
     (tt, told.1)

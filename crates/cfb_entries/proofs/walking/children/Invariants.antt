@@ -1,5 +1,5 @@
 use Rattle.std.proofs.Common.{◌≡◌, map, drop, chars}
-use Rattle.cfb_meaning.specs.TreeRules.{children_shown}
+use Rattle.cfb_spec.specs.TreeRules.{children_shown}
 use Rattle.cfb_tree.specs.EntryViews.{entry_in}
 use Rattle.cfb_tree.specs.Paths.{Path}
 use Rattle.cfb_tree.specs.Tree.{Content}

@@ -33,9 +33,9 @@ loop-sector_id-preserved g c =
     let inside : id < length (fat_here {g = g.F.ReadMedium} fs now) = omega (arith, size, there) in
     record {
       writes = writes_more ids fs old now new i id more refl inv.writes (one_written fs now new id c.args.entry _ _ each refl (subst (λ n. AreBelow n fs) (sym inv.writes.count) c.requires.there) there places did.changes did.count c.ranges.entry.fits);
-      live = did.live;
+      live = did.not_failed;
       entries = λ honest once k less.
-          let set = entry_here fs now new id c.args.entry _ _ each refl there places did.changes did.count c.ranges.entry.fits did.live (subst IsTrue (sym inv.writes.honest) honest) once in
+          let set = entry_here fs now new id c.args.entry _ _ each refl there places did.changes did.count c.ranges.entry.fits did.not_failed (subst IsTrue (sym inv.writes.honest) honest) once in
           ap (λ l. get_or l (get_or ids k 0) 0) (sym set) ∙ entries_more c.args.entry ids (fat_here {g = g.F.ReadMedium} fs now) i more inside (inv.entries honest once) k less;
     }
 

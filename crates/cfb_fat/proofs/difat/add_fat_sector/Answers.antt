@@ -122,8 +122,8 @@ returns-clause-listed g c = λ live honest once fs size h.
     ∙ words_before v old mid (count_of it) r (λ p n fits. added.before live_mid honest p n fits tt) below)
     h
 
-pub returns-clause-told : goal.returns-clause-told
-returns-clause-told g c = λ live honest.
+pub returns-clause-answer : goal.returns-clause-answer
+returns-clause-answer g c = λ live honest.
     let it = c.args.sectors.now in
     let last = c.write_counts.new.sectors in
     let added = c.in_ok-sector_id.ensures.appends in

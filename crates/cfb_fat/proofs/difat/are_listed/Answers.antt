@@ -14,7 +14,7 @@ returns-after-are_same-clause-listed g c = λ honest.
     let ds = c.args.difat_sectors.now in
     let fs = c.args.fat_sectors.now in
     let found = c.in-Ok.found in
-    let whole = header_whole v b (count_of it) (it.counted c.in-Ok.ensures.live honest) c.requires.some in
+    let whole = header_whole v b (count_of it) (it.counted c.in-Ok.ensures.not_failed honest) c.requires.some in
     let lists : Lists v b found.sectors.items found.fat_sectors.items = c.in-Ok.ensures.lists honest whole in
     let only : Lists v b ds fs → (found.sectors.items ≡ ds) × (found.fat_sectors.items ≡ fs) =
     λ is. lists_same v b ds fs found.sectors.items found.fat_sectors.items (count_of it) it.few c.requires.there c.in-Ok.ensures.last is lists in
@@ -37,6 +37,6 @@ returns-in-Err-InvalidData-clause-listed g c = λ honest. (
   λ wrong. absurd (cc),
   λ is.
       let it = c.args.sectors.now in
-      let whole = header_whole (version_of it) (bytes_of it) (count_of it) (it.counted (c.in-Err-InvalidData.ensures.refused (ap Err c.in-Err-InvalidData.field-0-is)) honest) c.requires.some in
+      let whole = header_whole (version_of it) (bytes_of it) (count_of it) (it.counted (c.in-Err-InvalidData.ensures.refused_only_if (ap Err c.in-Err-InvalidData.field-0-is)) honest) c.requires.some in
       absurd (c.in-Err-InvalidData.ensures.none (ap Err c.in-Err-InvalidData.field-0-is) honest whole c.args.difat_sectors.now c.args.fat_sectors.now is),
 )

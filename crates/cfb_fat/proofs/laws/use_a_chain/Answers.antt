@@ -2,7 +2,7 @@ use Rattle.std.proofs.Common.{◌+◌, ◌≤◌, [], ◌∷◌, ◌++◌, lengt
 use Rattle.cfb_medium.specs.Versions.{sector_len}
 use Rattle.cfb_sectors.specs.Sectors.{sector, Chain as IsChain}
 use Rattle.cfb_sectors.proofs.OneChain.{chain_unique}
-use Rattle.cfb_chains.specs.Owned.{Leaves}
+use Rattle.cfb_chains.specs.Owned.{ChangesAtMost}
 use Rattle.cfb_fat.specs.Seeing.{seen_of}
 use Rattle.cfb_fat.specs.Tables.{fat_of, version_of}
 use Rattle.cfb_fat.proofs.GrowthSteps.{on_ok_map}
@@ -46,20 +46,20 @@ returns-clause-stays g c =
     let one = chain_unique (fat_of s2) n (ext.0 ++ ext.1 ∷ []) (n ∷ []) ext.2 chain2 in
     let chain3 : IsChain (fat_of s3) n (n ∷ m ∷ []) = subst (IsChain (fat_of s3) n) (sym (append_assoc ext.0 (ext.1 ∷ []) (m ∷ [])) ∙ ap (λ l. l ++ m ∷ []) one) ext.3 in
     let chain4 : IsChain (fat_of s4) n (n ∷ m ∷ []) = subst (λ l. IsChain l n (n ∷ m ∷ [])) (sym more.writes.fat) chain3 in
-    let chain5 : IsChain (fat_of s5) n (n ∷ []) = ended (fat_of s4) (fat_of s5) n (m ∷ []) chain4 (cut.frees.2.fat cut.changes.live.2).size cut.frees.1.1 in
+    let chain5 : IsChain (fat_of s5) n (n ∷ []) = ended (fat_of s4) (fat_of s5) n (m ∷ []) chain4 (cut.frees.2.fat cut.error_contract.live.2).size cut.frees.1.1 in
     let at3 = one_last longer.leaves.0 longer.leaves.1 n (chain_unique (fat_of s2) n (longer.leaves.0 ++ longer.leaves.1 ∷ []) (n ∷ []) longer.leaves.2 chain2) in
     let at5 = chain_unique (fat_of s4) n (n ∷ cut.leaves.0) (n ∷ m ∷ []) cut.leaves.1 chain4 in
     let at6 = chain_unique (fat_of s5) n last.0 (n ∷ []) last.1 chain5 in
     let first = held_first (sector v) (seen_of s0) own owned in
-    let held1 = held_then (sector v) (seen_of s0) own [] (n ∷ []) (n ∷ []) (n ∷ n ∷ []) (seen_of s0) (seen_of s1) first (begun.leaves honest) (among_one n) (begun.takes.free begun.changes.live.2) (spare_of s1 v n v1 begun.fresh.writable, tt) begun.chain (among_same (n ∷ []) (n ∷ []) refl) in
+    let held1 = held_then (sector v) (seen_of s0) own [] (n ∷ []) (n ∷ []) (n ∷ n ∷ []) (seen_of s0) (seen_of s1) first (begun.leaves honest) (among_one n) (begun.takes.free begun.error_contract.live.2) (spare_of s1 v n v1 begun.fresh.writable, tt) begun.chain (among_same (n ∷ []) (n ∷ []) refl) in
     let held2 = held_then (sector v) (seen_of s0) own (n ∷ []) (n ∷ []) [] (n ∷ []) (seen_of s1) (seen_of s2) held1
-    (subst (λ u. Leaves (sector u) [] (n ∷ []) (seen_of s1) (seen_of s2)) v1 (wrote.leaves fits1 h1)) (among_same (n ∷ []) (n ∷ []) refl) tt tt chain2 (among_same (n ∷ []) (n ∷ []) refl) in
+    (subst (λ u. ChangesAtMost (sector u) [] (n ∷ []) (seen_of s1) (seen_of s2)) v1 (wrote.leaves fits1 h1)) (among_same (n ∷ []) (n ∷ []) refl) tt tt chain2 (among_same (n ∷ []) (n ∷ []) refl) in
     let held3 = held_then (sector v) (seen_of s0) own (n ∷ []) (n ∷ m ∷ []) (m ∷ []) (m ∷ longer.leaves.1 ∷ m ∷ []) (seen_of s2) (seen_of s3) held2
-    (subst (λ u. Leaves (sector u) [] (m ∷ longer.leaves.1 ∷ m ∷ []) (seen_of s2) (seen_of s3)) v2 (longer.leaves.3 h2)) (among_two n m longer.leaves.1 at3) (ext.4.free longer.changes.live.2) (spare_of s3 (version_of s2) m ext.4.grows.version longer.fresh.writable, tt) chain3 (among_same (n ∷ m ∷ []) (n ∷ m ∷ []) refl) in
+    (subst (λ u. ChangesAtMost (sector u) [] (m ∷ longer.leaves.1 ∷ m ∷ []) (seen_of s2) (seen_of s3)) v2 (longer.leaves.3 h2)) (among_two n m longer.leaves.1 at3) (ext.4.free longer.error_contract.live.2) (spare_of s3 (version_of s2) m ext.4.grows.version longer.fresh.writable, tt) chain3 (among_same (n ∷ m ∷ []) (n ∷ m ∷ []) refl) in
     let held4 = held_then (sector v) (seen_of s0) own (n ∷ m ∷ []) (n ∷ m ∷ []) [] (m ∷ []) (seen_of s3) (seen_of s4) held3
-    (subst (λ u. Leaves (sector u) [] (m ∷ []) (seen_of s3) (seen_of s4)) v3 (more.leaves fits3 h3)) (among_back n m) tt tt chain4 (among_same (n ∷ m ∷ []) (n ∷ m ∷ []) refl) in
+    (subst (λ u. ChangesAtMost (sector u) [] (m ∷ []) (seen_of s3) (seen_of s4)) v3 (more.leaves fits3 h3)) (among_back n m) tt tt chain4 (among_same (n ∷ m ∷ []) (n ∷ m ∷ []) refl) in
     let held5 = held_then (sector v) (seen_of s0) own (n ∷ m ∷ []) (n ∷ []) [] (n ∷ cut.leaves.0) (seen_of s4) (seen_of s5) held4
-    (subst (λ u. Leaves (sector u) [] (n ∷ cut.leaves.0) (seen_of s4) (seen_of s5)) v4 (cut.leaves.2 h4)) (among_same (n ∷ m ∷ []) (n ∷ cut.leaves.0) at5) tt tt chain5 (among_front n m) in
+    (subst (λ u. ChangesAtMost (sector u) [] (n ∷ cut.leaves.0) (seen_of s4) (seen_of s5)) v4 (cut.leaves.2 h4)) (among_same (n ∷ m ∷ []) (n ∷ cut.leaves.0) at5) tt tt chain5 (among_front n m) in
     let held6 = held_then (sector v) (seen_of s0) own (n ∷ []) [] [] last.0 (seen_of s5) (seen_of s6) held5
-    (subst (λ u. Leaves (sector u) [] last.0 (seen_of s5) (seen_of s6)) v5 (last.2 h5)) (among_same (n ∷ []) last.0 at6) tt tt refl (λ x none j below same. absurd (omega (arith, below))) in
+    (subst (λ u. ChangesAtMost (sector u) [] last.0 (seen_of s5) (seen_of s6)) v5 (last.2 h5)) (among_same (n ∷ []) last.0 at6) tt tt refl (λ x none j below same. absurd (omega (arith, below))) in
     held_last (sector v) (seen_of s0) own (seen_of s6) [] held6 k)

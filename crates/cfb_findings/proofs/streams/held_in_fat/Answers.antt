@@ -8,7 +8,7 @@ use Rattle.cfb_sectors.specs.Sectors.{sector_start}
 use Rattle.cfb_fat.specs.Tables.{fat_of, has_failed_here}
 use Rattle.cfb_mini.specs.Views.{allocator_of}
 use Rattle.cfb_findings.specs.Avail.{sector_bytes}
-use Rattle.cfb_findings.specs.Held.{Tells}
+use Rattle.cfb_findings.specs.Held.{TableHasChains}
 use Rattle.cfb_findings.specs.Rooms.{of_part}
 use Rattle.cfb_findings.proofs.Rooming.{listed_at, listed_most, sector_small, sector_some}
 use Rattle.cfb_findings.proofs.streams.held_in_fat.Goals as goal
@@ -42,7 +42,7 @@ returns-clause-tells g c =
     let told : (n : ℕ) → n < length c.deref.result.now → slice_index c.deref-2.result.now n ≡ min c.sector_len.result (end - sector_start v n) =
     λ n below. ap (λ (xs : List ℕ). slice_index xs n) avail_is ∙ listed_at (sector_bytes v end) count n (omega (arith, below, few))
     ∙ ap (λ (l : ℕ). min l (end - sector_start v n)) (sym c.sector_len.ensures) in
-    subst (λ (w : Version). IfOk c.of_table.result (Tells (fat_of (allocator_of c.args.file.now)) (sector_len w) (sector_start w) end)) c.version-version.ensures
-    (subst (λ (p : ℕ). IfOk c.of_table.result (Tells (fat_of (allocator_of c.args.file.now)) p (sector_start v) end)) c.sector_len.ensures
-    (subst (λ (l : List ℕ). IfOk c.of_table.result (Tells l c.sector_len.result (sector_start v) end)) links_is
+    subst (λ (w : Version). IfOk c.of_table.result (TableHasChains (fat_of (allocator_of c.args.file.now)) (sector_len w) (sector_start w) end)) c.version-version.ensures
+    (subst (λ (p : ℕ). IfOk c.of_table.result (TableHasChains (fat_of (allocator_of c.args.file.now)) p (sector_start v) end)) c.sector_len.ensures
+    (subst (λ (l : List ℕ). IfOk c.of_table.result (TableHasChains l c.sector_len.result (sector_start v) end)) links_is
     (c.of_table.ensures.tells (sector_start v) end told)))

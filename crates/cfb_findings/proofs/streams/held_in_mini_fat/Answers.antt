@@ -7,7 +7,7 @@ use Rattle.cfb_medium.specs.declared.version.Version.{Version}
 use Rattle.cfb_fat.specs.Tables.{version_of}
 use Rattle.cfb_mini.specs.Views.{allocator_of, mini_fat_of, mini_stream_ids}
 use Rattle.cfb_findings.specs.Avail.{mini_bytes, mini_start}
-use Rattle.cfb_findings.specs.Held.{Tells}
+use Rattle.cfb_findings.specs.Held.{TableHasChains}
 use Rattle.cfb_findings.specs.Minis.{minis_there}
 use Rattle.cfb_findings.specs.Rooms.{of_part}
 use Rattle.cfb_findings.proofs.Rooming.{listed_at, listed_most}
@@ -42,7 +42,7 @@ returns-clause-tells g c =
     ∙ ap (λ (l : List ℕ). take (minis_there (mini_fat_of file) (length (mini_stream_ids file) * sector_len (version_of (allocator_of file)))) l) c.mini_fat.ensures in
     let told : (n : ℕ) → n < length links → slice_index c.deref.result.now n ≡ min 64 (end - mini_start v stream n) =
     λ n below. ap (λ (xs : List ℕ). slice_index xs n) avail_is ∙ listed_at f count n (omega (arith, below, length-take count c.mini_fat.result.now)) in
-    subst (λ (w : Version). IfOk c.of_table.result (Tells wanted 64 (mini_start w (mini_stream_ids file)) end)) c.version.ensures
-    (subst (λ (s : List ℕ). IfOk c.of_table.result (Tells wanted 64 (mini_start v s) end)) c.mini_stream_sectors-stream.ensures
-    (subst (λ (l : List ℕ). IfOk c.of_table.result (Tells l 64 (mini_start v stream) end)) links_is
+    subst (λ (w : Version). IfOk c.of_table.result (TableHasChains wanted 64 (mini_start w (mini_stream_ids file)) end)) c.version.ensures
+    (subst (λ (s : List ℕ). IfOk c.of_table.result (TableHasChains wanted 64 (mini_start v s) end)) c.mini_stream_sectors-stream.ensures
+    (subst (λ (l : List ℕ). IfOk c.of_table.result (TableHasChains l 64 (mini_start v stream) end)) links_is
     (c.of_table.ensures.tells (mini_start v stream) end told)))

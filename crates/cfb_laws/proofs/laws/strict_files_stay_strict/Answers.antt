@@ -1,14 +1,14 @@
 use Rattle.std.proofs.Common.{◌∙◌}
-use Rattle.cfb_live.proofs.Strays.{strays_kept}
+use Rattle.cfb_tree_edits.proofs.Strays.{strays_kept}
 use Rattle.cfb_mini.specs.Views.{allocator_of}
-use Rattle.cfb_owned.proofs.GoingOn.{rests_go_on}
-use Rattle.cfb.specs.Views.{letters_in, mini_of}
+use Rattle.cfb_chain_io.proofs.GoingOn.{rests_go_on}
+use Rattle.cfb.specs.Views.{file_case_table, mini_of}
 use Rattle.cfb_laws.proofs.StrictFiles.{strict_bytes}
 use Rattle.cfb_laws.proofs.laws.strict_files_stay_strict.Goals as goal
 
 pub returns-clause-strict : goal.returns-clause-strict
 returns-clause-strict g c = λ it tree m.
-    let is = strict_bytes (letters_in it) (mini_of it) tree m.live in (
+    let is = strict_bytes (file_case_table it) (mini_of it) tree m.live in (
       λ strict. is.0 (strict.told, strict.ends, strict.live),
       λ opens. let strict = is.1 opens in record { told = strict.0; ends = strict.1; live = strict.2 },
     )

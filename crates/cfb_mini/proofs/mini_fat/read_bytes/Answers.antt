@@ -5,7 +5,7 @@ use Rattle.cfb_medium.specs.Versions.{sector_len}
 use Rattle.cfb_chains.specs.LinkViews.{ids_of}
 use Rattle.cfb_chains.proofs.ChainWriting.{length-joined}
 use Rattle.cfb_fat.specs.Tables.{bytes_of, version_of}
-use Rattle.cfb_owned.specs.Chains.{content_of}
+use Rattle.cfb_chain_io.specs.ChainEffects.{content_of}
 use Rattle.cfb_mini.proofs.mini_fat.read_bytes.Goals as goal
 
 whole : (len n : ℕ) (buffer rest content : List ℕ) → n ≡ len → length content ≡ len → buffer ≡ take n (drop 0 content) → take len (buffer ++ rest) ≡ content

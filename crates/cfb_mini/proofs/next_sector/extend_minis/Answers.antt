@@ -1,8 +1,8 @@
 use Rattle.std.proofs.Common.{◌≡◌, ◌<◌, ◌++◌, [], ◌∷◌, length, ap, sym, subst, ◌∙◌}
 use Rattle.std.proofs.lemmas.Option.{slice_get_within}
 use Rattle.cfb_sectors.specs.Sectors.{free}
-use Rattle.cfb_chains.specs.Grown.{IsLinked}
-use Rattle.cfb_owned.specs.Chains.{HasChain}
+use Rattle.cfb_chains.specs.Grown.{IsChainInTable}
+use Rattle.cfb_chain_io.specs.ChainEffects.{HasDataChain}
 use Rattle.cfb_mini.specs.LinkViews.{minis_of}
 use Rattle.cfb_mini.specs.NumberViews.{numbers_of}
 use Rattle.cfb_mini.specs.NextSector.{linked_behind, linked_pair}
@@ -10,8 +10,8 @@ use Rattle.cfb_mini.proofs.Entries.{enters_from, enters_wider}
 use Rattle.cfb_mini.proofs.Linking.{has_last, linked_with, to_last}
 use Rattle.cfb_mini.proofs.next_sector.extend_minis.Goals as goal
 
-pub returns-then-not-has_number-clause-refused : goal.returns-then-not-has_number-clause-refused
-returns-then-not-has_number-clause-refused g c = λ wrong chain linked.
+pub returns-then-not-has_number-clause-refused_only_if : goal.returns-then-not-has_number-clause-refused_only_if
+returns-then-not-has_number-clause-refused_only_if g c = λ wrong chain linked.
     let minis = minis_of c.args.links.now in
     let at_end = to_last minis (minis_of c.reserve_one.new.self) c.last-last.result c.reserve_one.ensures.same c.last-last.ensures in
     let yes = c.if-not-has_number.ensures.1 (has_last (numbers_of c.args.mini_fat.now.numbers) minis c.last-last.result at_end linked) in
@@ -44,6 +44,6 @@ returns-clause-takes g c = λ took chain linked.
       was_free = loose;
       first = c.in-Some.ensures.first;
       minis_are = are;
-      enters = enters_wider (minis ++ taken ∷ []) (linked_pair last taken) a b x y whole.1 (enters_from (linked_pair last taken) a b x mid y lies.0 same (did.enters (subst (HasChain a) (sym lies.0) chain)));
-      linked = subst (λ l. IsLinked l (minis_of c.push_reserved.new.self)) (sym now) (subst (IsLinked (linked_behind (numbers_of x.numbers) last taken)) (sym are) whole.0);
+      enters = enters_wider (minis ++ taken ∷ []) (linked_pair last taken) a b x y whole.1 (enters_from (linked_pair last taken) a b x mid y lies.0 same (did.enters (subst (HasDataChain a) (sym lies.0) chain)));
+      linked = subst (λ l. IsChainInTable l (minis_of c.push_reserved.new.self)) (sym now) (subst (IsChainInTable (linked_behind (numbers_of x.numbers) last taken)) (sym are) whole.0);
     }

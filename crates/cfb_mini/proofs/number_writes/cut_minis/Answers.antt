@@ -1,6 +1,6 @@
 use Rattle.std.proofs.Common.{◌≤◌, length, subst, sym}
 use Rattle.std.proofs.lemmas.List.{take_all}
-use Rattle.cfb_owned.proofs.Owning.{none_dropped}
+use Rattle.cfb_chain_io.proofs.Owning.{none_dropped}
 use Rattle.cfb_mini.specs.LinkViews.{minis_of}
 use Rattle.cfb_mini.specs.NumberViews.{numbers_of}
 use Rattle.cfb_mini.proofs.Entries.{enters_none}

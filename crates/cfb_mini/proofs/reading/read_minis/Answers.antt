@@ -4,10 +4,10 @@ use Rattle.cfb_medium.specs.Versions.{sector_len}
 use Rattle.cfb_chains.specs.LinkViews.{ids_of, links_version}
 use Rattle.cfb_chains.proofs.ChainWriting.{length-joined}
 use Rattle.cfb_fat.specs.Keeping.{rests_cause}
-use Rattle.cfb_fat.specs.Resting.{all_rest_then}
+use Rattle.cfb_fat.specs.OnlyReads.{all_rest_then}
 use Rattle.cfb_fat.specs.Tables.{bytes_of, version_of}
-use Rattle.cfb_owned.specs.Chains.{content_of}
-use Rattle.cfb_owned.proofs.ReadParts.{more_read}
+use Rattle.cfb_chain_io.specs.ChainEffects.{content_of}
+use Rattle.cfb_chain_io.proofs.ReadParts.{more_read}
 use Rattle.cfb_mini.specs.LinkViews.{minis_of}
 use Rattle.cfb_mini.specs.Minis.{mini_joined}
 use Rattle.cfb_mini.proofs.MiniParts.{mini_part}
@@ -34,7 +34,7 @@ read-preserved g c =
     record {
       most = omega (arith, enough, inv.size);
       size = same_len_mid done (done + n - done) c.read.buffer c.read_chain.new.buffer c.read_chain.auto.buffer ∙ inv.size;
-      rests = all_rest_then a m c.read_chain.new.allocator inv.rests c.in_default.ensures.rests;
+      rests = all_rest_then a m c.read_chain.new.allocator inv.rests c.in_default.ensures.only_reads;
       read = λ has all.
           let got = c.in_default.ensures.read (has_yet a m stream inv.rests has) in
           let there = c.in_default.ensures.there.1 in

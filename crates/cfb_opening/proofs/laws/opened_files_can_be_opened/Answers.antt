@@ -1,16 +1,16 @@
 use Rattle.std.proofs.Common.{◌≡◌, ℕ, List, refl}
 use Rattle.cfb_sectors.specs.declared.validation.Validation.{Validation}
 use Rattle.cfb_sectors.specs.declared.validation.Validation.TheVariants.{Permissive, Strict}
-use Rattle.cfb_tree.specs.Names.{Letters}
+use Rattle.cfb_tree.specs.Names.{CaseTable}
 use Rattle.cfb_tree.specs.Tree.{Tree}
 use Rattle.cfb_tree.specs.Entries.{HasSize}
 use Rattle.cfb_directory.specs.Taken.{HasAny}
-use Rattle.cfb_meaning.specs.Means.{HasBytes, IsStrict, Layout, MeansBy}
+use Rattle.cfb_spec.specs.Means.{HasBytes, IsStrict, Layout, BytesMeanTreeBy}
 use Rattle.cfb_opening.specs.Opened.{CanOpen}
 use Rattle.cfb_opening.proofs.Readings.{bytes_have_size, means_less}
 use Rattle.cfb_opening.proofs.laws.opened_files_can_be_opened.Goals as goal
 
-can_open : (validation : Validation) (letters : Letters) (bytes : List ℕ) (l : Layout) (tree : Tree) → MeansBy l HasAny letters bytes tree
+can_open : (validation : Validation) (letters : CaseTable) (bytes : List ℕ) (l : Layout) (tree : Tree) → BytesMeanTreeBy l HasAny letters bytes tree
     → (validation ≡ Strict → IsStrict bytes l) → CanOpen validation letters bytes
 can_open Permissive letters bytes l tree means strict = (l, tree, means)
 can_open Strict letters bytes l tree means strict = (l, tree, means, strict refl)

@@ -17,5 +17,5 @@ returns-clause-same c = if_again _ _ _ (written c) c.read_from.ensures.read
 pub returns-clause-taken : goal.returns-clause-taken
 returns-clause-taken c = if_taken _ _ _ _ (written c) c.read_from.ensures.whole
 
-pub returns-clause-error : goal.returns-clause-error
-returns-clause-error c = if_refused _ _ _ _ (written c) c.read_from.ensures.whole c.read_from.ensures.error
+pub returns-clause-errors : goal.returns-clause-errors
+returns-clause-errors c = if_refused _ _ _ _ (written c) c.read_from.ensures.whole c.read_from.ensures.errors

@@ -3,7 +3,7 @@ use Rattle.std.specs.Borrow.{Bor}
 use Rattle.std.proofs.Common.{subst, ap, true, false, arith}
 use Rattle.std.proofs.lemmas.List.{drop_all}
 use Rattle.cfb_tree.specs.EntryViews.{entry_in}
-use Rattle.cfb_tree.specs.LetterViews.{letters_of}
+use Rattle.cfb_tree.specs.CaseTableViews.{case_table_of}
 use Rattle.cfb_siblings.specs.Places.{path_of, IsPlace}
 use Rattle.cfb_siblings.specs.Reading.{ReadBy}
 use Rattle.cfb_siblings.proofs.Following.{Followed, followed_none, followed_all, followed_more, followed_nowhere, followed_stream, storage_there, next_name}
@@ -13,11 +13,11 @@ abbrev no_name : Bor (List ℕ)
 no_name = record { ref_ptr = (0, 0); now = [] }
 
 pub path-init : goal.path-init
-path-init c = λ reads tree h. followed_none (letters_of c.args.letters.now) (ReadBy reads) (map entry_in c.args.entries.now) tree h (path_of c.args.names.now)
+path-init c = λ reads tree h. followed_none (case_table_of c.args.letters.now) (ReadBy reads) (map entry_in c.args.entries.now) tree h (path_of c.args.names.now)
 
 pub returns-then-not-is_owner : goal.returns-then-not-is_owner
 returns-then-not-is_owner c = λ reads tree h.
-    let letters = letters_of c.args.letters.now in
+    let letters = case_table_of c.args.letters.now in
     let directory = map entry_in c.args.entries.now in
     let path = path_of c.args.names.now in
     let i = c.path.name-index in
@@ -28,7 +28,7 @@ returns-then-not-is_owner c = λ reads tree h.
 
 pub returns-in-Some-Free : goal.returns-in-Some-Free
 returns-in-Some-Free c = λ reads tree h.
-    let letters = letters_of c.args.letters.now in
+    let letters = case_table_of c.args.letters.now in
     let directory = map entry_in c.args.entries.now in
     let path = path_of c.args.names.now in
     let i = c.path.name-index in
@@ -41,7 +41,7 @@ returns-in-Some-Free c = λ reads tree h.
 
 pub returns-in-None : goal.returns-in-None
 returns-in-None c = λ reads tree h.
-    let letters = letters_of c.args.letters.now in
+    let letters = case_table_of c.args.letters.now in
     let directory = map entry_in c.args.entries.now in
     let path = path_of c.args.names.now in
     let i = c.path.name-index in
@@ -53,7 +53,7 @@ returns-in-None c = λ reads tree h.
 
 pub path-preserved : goal.path-preserved
 path-preserved c = λ reads tree h.
-    let letters = letters_of c.args.letters.now in
+    let letters = case_table_of c.args.letters.now in
     let directory = map entry_in c.args.entries.now in
     let path = path_of c.args.names.now in
     let i = c.path.name-index in
@@ -66,6 +66,6 @@ path-preserved c = λ reads tree h.
 
 pub returns : goal.returns
 returns c = λ reads tree h.
-    followed_all (letters_of c.args.letters.now) (ReadBy reads) (map entry_in c.args.entries.now) tree h (path_of c.args.names.now) c.path.id
-    (subst (λ rest. Followed (letters_of c.args.letters.now) (ReadBy reads) (map entry_in c.args.entries.now) tree h (path_of c.args.names.now) rest c.path.id)
+    followed_all (case_table_of c.args.letters.now) (ReadBy reads) (map entry_in c.args.entries.now) tree h (path_of c.args.names.now) c.path.id
+    (subst (λ rest. Followed (case_table_of c.args.letters.now) (ReadBy reads) (map entry_in c.args.entries.now) tree h (path_of c.args.names.now) rest c.path.id)
     (ap path_of (drop_all c.path.name-index c.args.names.now (omega (arith, c.path-test.false)))) (c.path.invariant reads tree h))

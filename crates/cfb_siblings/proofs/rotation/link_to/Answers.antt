@@ -6,7 +6,7 @@ use Rattle.cfb_siblings.specs.Rotations.{IsReached}
 use Rattle.cfb_siblings.proofs.Entries.{found_in}
 use Rattle.cfb_siblings.proofs.Finding.{Came, came_first, on_left, on_right, on_way}
 use Rattle.cfb_tree.specs.EntryViews.{entry_in}
-use Rattle.cfb_tree.specs.LetterViews.{letters_of}
+use Rattle.cfb_tree.specs.CaseTableViews.{case_table_of}
 use Rattle.cfb_siblings.proofs.rotation.link_to.Goals as goal
 use Rattle.cfb_siblings.proofs.rotation.link_to.Goals.{in-Less, in-Greater}
 
@@ -16,7 +16,7 @@ loop-step-init c =
     let found = found_in c.args.entries.now c.args.parent c.in-Some.storage.now at.3.0 at.1 in (
       (entry_in c.in-Some.storage.now, found),
       λ reads tree path h s.
-          came_first (letters_of c.args.letters.now) (map entry_in c.args.entries.now) (ReadBy reads) (chars c.args.name.now) tree path c.args.parent h s
+          came_first (case_table_of c.args.letters.now) (map entry_in c.args.entries.now) (ReadBy reads) (chars c.args.name.now) tree path c.args.parent h s
           (entry_in c.in-Some.storage.now) found,
     )
 
@@ -25,7 +25,7 @@ returns-then-at-id c = (
   c.loop-step.invariant.0,
   λ reads tree path h s.
       subst (IsReached (map entry_in c.args.entries.now) c.args.parent c.loop-step.link) c.if-at-id.true
-      (on_way (letters_of c.args.letters.now) (map entry_in c.args.entries.now) (ReadBy reads) (chars c.args.name.now) tree path c.args.parent h s
+      (on_way (case_table_of c.args.letters.now) (map entry_in c.args.entries.now) (ReadBy reads) (chars c.args.name.now) tree path c.args.parent h s
       c.loop-step.link c.loop-step.at c.loop-step._step (c.loop-step.invariant.1 reads tree path h s) c.if-at.false),
 )
 
@@ -41,16 +41,16 @@ loop-step-preserved c =
         | in-Greater w ↦ subst (λ l. HasEntry D (holder l)) (sym w.link-is) (entry_in e, found)
       ],
       λ reads tree path h s.
-          let Came' = Came (letters_of c.args.letters.now) D (ReadBy reads) (chars c.args.name.now) tree path c.args.parent h s in
+          let Came' = Came (case_table_of c.args.letters.now) D (ReadBy reads) (chars c.args.name.now) tree path c.args.parent h s in
           elim c.match-order.branch [
             | in-Less w ↦
                 subst (λ k. Came' c.match-order.link k (c.loop-step._step + 1)) (sym w.at-is) (subst (λ k. Came' k (entry_in e).left (c.loop-step._step + 1)) (sym w.link-is)
-                (on_left (letters_of c.args.letters.now) D (ReadBy reads) (chars c.args.name.now) tree path c.args.parent h s
+                (on_left (case_table_of c.args.letters.now) D (ReadBy reads) (chars c.args.name.now) tree path c.args.parent h s
                 c.loop-step.link c.loop-step.at c.loop-step._step (c.loop-step.invariant.1 reads tree path h s) c.if-at.false
                 (entry_in e) found own.0 own.1 (sym own.2 ∙ w.in-Less.is)))
             | in-Greater w ↦
                 subst (λ k. Came' c.match-order.link k (c.loop-step._step + 1)) (sym w.at-is) (subst (λ k. Came' k (entry_in e).right (c.loop-step._step + 1)) (sym w.link-is)
-                (on_right (letters_of c.args.letters.now) D (ReadBy reads) (chars c.args.name.now) tree path c.args.parent h s
+                (on_right (case_table_of c.args.letters.now) D (ReadBy reads) (chars c.args.name.now) tree path c.args.parent h s
                 c.loop-step.link c.loop-step.at c.loop-step._step (c.loop-step.invariant.1 reads tree path h s) c.if-at.false
                 (entry_in e) found own.0 own.1 (sym own.2 ∙ w.in-Greater.is)))
           ],

@@ -1,7 +1,7 @@
 use Rattle.std.specs.Prelude.{chars, map, ℕ, Bool, List}
 use Rattle.cfb_tree.specs.EntryViews.{entry_in}
-use Rattle.cfb_tree.specs.LetterViews.{letters_of}
-use Rattle.cfb_tree.specs.Objects.{HoldsTree}
+use Rattle.cfb_tree.specs.CaseTableViews.{case_table_of}
+use Rattle.cfb_tree.specs.Objects.{EntriesHoldTree}
 use Rattle.cfb_tree.specs.Paths.{Path}
 use Rattle.cfb_tree.specs.Tree.{Tree}
 use Rattle.cfb_siblings.specs.Links.{holder}
@@ -12,6 +12,6 @@ use Rattle.cfb_siblings.proofs.rotation.link_to.Given as goal
 
 abbrev pub invariant-loop-step : goal.invariant-loop-step
 invariant-loop-step l = HasEntry (map entry_in l.entries) (holder l.link) × ((reads : ℕ → ℕ → List ℕ → Bool) (tree : Tree) (path : Path)
-    (h : HoldsTree (letters_of l.letters) (ReadBy reads) (map entry_in l.entries) tree)
-    (s : IsStorageAt (letters_of l.letters) (map entry_in l.entries) path l.parent)
-    → Came (letters_of l.letters) (map entry_in l.entries) (ReadBy reads) (chars l.name) tree path l.parent h s l.link l.at l._step)
+    (h : EntriesHoldTree (case_table_of l.letters) (ReadBy reads) (map entry_in l.entries) tree)
+    (s : IsStorageAt (case_table_of l.letters) (map entry_in l.entries) path l.parent)
+    → Came (case_table_of l.letters) (map entry_in l.entries) (ReadBy reads) (chars l.name) tree path l.parent h s l.link l.at l._step)

@@ -3,7 +3,7 @@ use Rattle.cfb_sectors.specs.Held.{count_of}
 use Rattle.cfb_fat.specs.Tables.{bytes_of, difat_sectors_of, fat_of, fat_sectors_of, sectors_of}
 use Rattle.cfb_directory.specs.Views.{entries_held}
 use Rattle.cfb_mini.specs.Views.{allocator_of, directory_of, mini_fat_of}
-use Rattle.cfb_meaning.specs.Sound.{IsSound}
+use Rattle.cfb_spec.specs.Sound.{IsSoundContainer}
 use Rattle.cfb_soundness.specs.Entries.{AreTreeEntries}
 use Rattle.cfb_soundness.specs.Uses.{AreInUse}
 use Rattle.cfb_soundness.specs.Views.{marks_of}
@@ -48,7 +48,7 @@ returns-then-not-take_tables-clause-sound g c = λ letters l tree so len m.
     let starts : marks_of c.in_ok-new.field-0 ≡ replicate (count_of (sectors_of (allocator_of c.args.file.now))) false =
     c.in_ok-new.ensures.none ∙ ap (λ n. replicate n false) (c.num_sectors.ensures ∙ ap (λ a. count_of (sectors_of a)) same) in (
       (λ wrong. absurd (no wrong)),
-      λ sound. absurd (unsound_tables c.args.file.now c.args.file_len letters l tree so len m (marks_of c.in_ok-new.field-0) starts (c.if-not-take_tables.ensures.refused refl) sound),
+      λ sound. absurd (unsound_tables c.args.file.now c.args.file_len letters l tree so len m (marks_of c.in_ok-new.field-0) starts (c.if-not-take_tables.ensures.refused_only_if refl) sound),
     )
 
 pub returns-clause-sound : goal.returns-clause-sound
@@ -71,10 +71,10 @@ returns-clause-sound g c =
     let difat_used : AreInUse (fat_of (allocator_of file)) (difat_sectors_of (allocator_of file)) =
     subst (AreInUse (fat_of (allocator_of file))) difat_list (subst (λ a. AreInUse (fat_of a) c.difat_sectors.result.now) same (c.if-not-are_in_use-2.ensures.0 refl)) in
     if_ok_both c.take_entries.result _ _ _
-    (λ ok took refused letters l tree so len m. by_test (IsSound letters (bytes_of (allocator_of file))) ok
+    (λ ok took refused letters l tree so len m. by_test (IsSoundContainer letters (bytes_of (allocator_of file))) ok
     (λ yes. let (sectors, minis, have, takes) = took yes in
     sound_where_taken file c.args.file_len letters l tree so len m (marks_of c.in_ok-new.field-0) (record { sectors = c.take_tables.new.sectors; minis = c.in_ok-new-2.field-0 }) c.deref.result.now starts all mini_starts tables
     covers fat_used difat_used sectors minis c.take_entries.new.self have takes)
     (λ no. unsound_where_refused file c.args.file_len letters l tree so len m (marks_of c.in_ok-new.field-0) (record { sectors = c.take_tables.new.sectors; minis = c.in_ok-new-2.field-0 }) c.deref.result.now starts all mini_starts tables
     (refused no)))
-    c.take_entries.ensures.took c.take_entries.ensures.refused
+    c.take_entries.ensures.took c.take_entries.ensures.refused_only_if

@@ -8,8 +8,8 @@ use Rattle.cfb_soundness.specs.Views.{marks_of, tables_in}
 use Rattle.cfb_soundness.proofs.UsesFound.{long_is, long_not_held}
 use Rattle.cfb_soundness.proofs.streams.take_long.Goals as goal
 
-pub returns-then-not-hold_bytes-clause-refused : goal.returns-then-not-hold_bytes-clause-refused
-returns-then-not-hold_bytes-clause-refused g c = λ no ids has can.
+pub returns-then-not-hold_bytes-clause-refused_only_if : goal.returns-then-not-hold_bytes-clause-refused_only_if
+returns-then-not-hold_bytes-clause-refused_only_if g c = λ no ids has can.
     let t = tables_in c.args.file.now c.args.file_len in
     let links = ids_of c.in-Some.links in
     let chain : Chain t.fat c.args.entry.now.start_sector links = rw c.in-Some.is at c.in_ok-links.ensures.some in
@@ -19,10 +19,10 @@ returns-then-not-hold_bytes-clause-refused g c = λ no ids has can.
     long_not_held t (entry_in c.args.entry.now) links c.deref.result.now c.sector_len.result ids chain len starts
     (λ held. let wrong = c.if-not-hold_bytes.ensures.1 held in absurd (cc)) has
 
-pub returns-clause-refused : goal.returns-clause-refused
-returns-clause-refused g c = λ no ids has can.
+pub returns-clause-refused_only_if : goal.returns-clause-refused_only_if
+returns-clause-refused_only_if g c = λ no ids has can.
     let t = tables_in c.args.file.now c.args.file_len in
     let links = ids_of c.in-Some.links in
     let chain : Chain t.fat c.args.entry.now.start_sector links = rw c.in-Some.is at c.in_ok-links.ensures.some in
     let same = long_is t (entry_in c.args.entry.now) links links 0 ids chain has in
-    c.take_all.ensures.refused no (subst (λ xs. CanTake xs (marks_of c.args.sectors.now)) (same ∙ sym c.sector_ids-2.ensures) can)
+    c.take_all.ensures.refused_only_if no (subst (λ xs. CanTake xs (marks_of c.args.sectors.now)) (same ∙ sym c.sector_ids-2.ensures) can)

@@ -7,8 +7,8 @@ use Rattle.cfb_soundness.specs.Views.{marks_of, tables_in}
 use Rattle.cfb_soundness.proofs.UsesFound.{short_is, short_not_held}
 use Rattle.cfb_soundness.proofs.streams.take_short.Goals as goal
 
-pub returns-then-not-hold_bytes-clause-refused : goal.returns-then-not-hold_bytes-clause-refused
-returns-then-not-hold_bytes-clause-refused g c = λ no ids has can.
+pub returns-then-not-hold_bytes-clause-refused_only_if : goal.returns-then-not-hold_bytes-clause-refused_only_if
+returns-then-not-hold_bytes-clause-refused_only_if g c = λ no ids has can.
     let t = tables_in c.args.file.now c.args.file_len in
     let links = minis_of c.in-Some.links in
     let found = rw c.in-Some.is at c.in_ok-links.ensures.some in
@@ -17,10 +17,10 @@ returns-then-not-hold_bytes-clause-refused g c = λ no ids has can.
     short_not_held t (entry_in c.args.entry.now) links c.deref.result.now 64 ids found.0 starts
     (λ held. let wrong = c.if-not-hold_bytes.ensures.1 held in absurd (cc)) has
 
-pub returns-clause-refused : goal.returns-clause-refused
-returns-clause-refused g c = λ no ids has can.
+pub returns-clause-refused_only_if : goal.returns-clause-refused_only_if
+returns-clause-refused_only_if g c = λ no ids has can.
     let t = tables_in c.args.file.now c.args.file_len in
     let links = minis_of c.in-Some.links in
     let found = rw c.in-Some.is at c.in_ok-links.ensures.some in
     let same = short_is t (entry_in c.args.entry.now) links links 64 ids found.0 has in
-    c.take_all.ensures.refused no (subst (λ xs. CanTake xs (marks_of c.args.minis.now)) (same ∙ sym c.mini_sector_ids-2.ensures) can)
+    c.take_all.ensures.refused_only_if no (subst (λ xs. CanTake xs (marks_of c.args.minis.now)) (same ∙ sym c.mini_sector_ids-2.ensures) can)

@@ -24,7 +24,7 @@ returns-clause-same c =
     let long = length-entry_bytes c.args.version e c.fits.ensures in
     if_same _ _ e (ap (λ xs. entry_of c.args.version (take 128 xs)) (written c) ∙ ap (entry_of c.args.version) (take_all 128 (entry_bytes e) (omega (arith, long))) ∙ entry_again c.args.version e c.fits.ensures) c.read_from.ensures.read
 
-pub returns-clause-error : goal.returns-clause-error
-returns-clause-error c =
+pub returns-clause-errors : goal.returns-clause-errors
+returns-clause-errors c =
     let long = ap length (written c) ∙ length-entry_bytes c.args.version (entry_in c.args.entry) c.fits.ensures in
     no_error _ _ (c.read_from.ensures.whole.1 (omega (arith, long)))

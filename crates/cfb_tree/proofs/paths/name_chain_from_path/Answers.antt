@@ -14,8 +14,8 @@ loop-part-preserved-then-is_dropped c =
     sym (part_dropped (map (λ name. name.now) c.loop-part.names.items) c.in-Some.part.now _ _ (rest_behind (slice_split (λ b. b == 47) c.args.path.now) c.loop-part.yielded c.in-Some.part c.in-Some.part.now t) (sym c.is_dropped.ensures ∙ c.if-is_dropped.true))
     ∙ c.loop-part.invariant
 
-pub returns-then-is_none-clause-error : goal.returns-then-is_none-clause-error
-returns-then-is_none-clause-error c =
+pub returns-then-is_none-clause-errors : goal.returns-then-is_none-clause-errors
+returns-then-is_none-clause-errors c =
     let t = YieldsList-turn (YieldsList-from_str_split 47 c.args.path.now (lit< tt) (cc) (cc) (cc)) c.loop-part.yielded _ c.loop-part.yielded_by _ _ c.in-Some.part c.in-Some.is c.next.ensures.steps in
     let rest = drop (length (c.loop-part.yielded ++ c.in-Some.part ∷ [])) (slice_split (λ b. b == 47) c.args.path.now) in
     inr (

@@ -33,10 +33,10 @@ returns-in-Ok-new-clause-failures g c =
     let keeps = g.met.D.Device.rests_keeps _ _ (c.in-Ok-new.ensures.ok _ (g.met.D.Device.rests_refl _)) in
     omega (arith, c.recover.ensures.failures, keeps.counted)
 
-pub returns-in-Err-new-clause-err : goal.returns-in-Err-new-clause-err
-returns-in-Err-new-clause-err g c =
-    let keeps = g.met.D.Device.rests_keeps _ _ (c.in-Err-new.ensures.err _ (g.met.D.Device.rests_refl _)) in
-    let fault = c.in-Err-new.ensures.fault in
+pub returns-in-Err-new-clause-after_error : goal.returns-in-Err-new-clause-after_error
+returns-in-Err-new-clause-after_error g c =
+    let keeps = g.met.D.Device.rests_keeps _ _ (c.in-Err-new.ensures.after_error _ (g.met.D.Device.rests_refl _)) in
+    let fault = c.in-Err-new.ensures.errors in
     record {
       kind = inr fault.kind;
       counted = λ is less. faults _ _ _ less c.recover.ensures.failures keeps.counted fault.counted;
@@ -44,18 +44,18 @@ returns-in-Err-new-clause-err g c =
 
 pub returns-in-Err-new-clause-err_honest : goal.returns-in-Err-new-clause-err_honest
 returns-in-Err-new-clause-err_honest g c =
-    let keeps = g.met.D.Device.rests_keeps _ _ (c.in-Err-new.ensures.err _ (g.met.D.Device.rests_refl _)) in
+    let keeps = g.met.D.Device.rests_keeps _ _ (c.in-Err-new.ensures.after_error _ (g.met.D.Device.rests_refl _)) in
     sym keeps.as_honest ∙ c.recover.ensures.honest
 
 pub returns-in-Err-new-clause-err_failures : goal.returns-in-Err-new-clause-err_failures
 returns-in-Err-new-clause-err_failures g c =
-    let keeps = g.met.D.Device.rests_keeps _ _ (c.in-Err-new.ensures.err _ (g.met.D.Device.rests_refl _)) in
+    let keeps = g.met.D.Device.rests_keeps _ _ (c.in-Err-new.ensures.after_error _ (g.met.D.Device.rests_refl _)) in
     omega (arith, c.recover.ensures.failures, keeps.counted)
 
 pub returns-in-Ok-new-clause-stops : goal.returns-in-Ok-new-clause-stops
 returns-in-Ok-new-clause-stops g c = λ honest.
-    alike_then g.D.Device g.met.D.Device.counts_now _ _ _ (c.recover.ensures.left honest) (g.met.D.Device.rests_leaves _ _ (c.in-Ok-new.ensures.ok _ (g.met.D.Device.rests_refl _)))
+    alike_then g.D.Device g.met.D.Device.counts_now _ _ _ (c.recover.ensures.crash honest) (g.met.D.Device.rests_leaves _ _ (c.in-Ok-new.ensures.ok _ (g.met.D.Device.rests_refl _)))
 
 pub returns-in-Err-new-clause-stops : goal.returns-in-Err-new-clause-stops
 returns-in-Err-new-clause-stops g c = λ honest.
-    alike_then g.D.Device g.met.D.Device.counts_now _ _ _ (c.recover.ensures.left honest) (g.met.D.Device.rests_leaves _ _ (c.in-Err-new.ensures.err _ (g.met.D.Device.rests_refl _)))
+    alike_then g.D.Device g.met.D.Device.counts_now _ _ _ (c.recover.ensures.crash honest) (g.met.D.Device.rests_leaves _ _ (c.in-Err-new.ensures.after_error _ (g.met.D.Device.rests_refl _)))

@@ -1,4 +1,4 @@
-use Rattle.installer.specs.Survival.{listed}
+use Rattle.installer.specs.CrashSurvival.{listed}
 use Rattle.installer.proofs.Stopping.{survive, own_list, home_found}
 use Rattle.installer.proofs.history.committed_packages_survive.Goals as goal
 

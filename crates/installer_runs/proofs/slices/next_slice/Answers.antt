@@ -1,6 +1,6 @@
 use Rattle.std.proofs.Common.{◌≡◌, ◌+◌, ◌-◌, ◌≤◌, ℕ, drop, map, subst, sym, take, arith}
 use Rattle.std.proofs.lemmas.List.{take-take}
-use Rattle.command_file.specs.Said.{said}
+use Rattle.command_file.specs.RequestsOf.{request_of}
 use Rattle.installer_runs.proofs.Parting.{taken_few}
 use Rattle.installer_runs.specs.Runs.{IsSlice}
 use Rattle.installer_runs.proofs.slices.next_slice.Goals as goal
@@ -12,4 +12,4 @@ returns-clause-slice c =
     let count : c.args.from + c.part_of.result - c.args.from ≡ c.part_of.result = omega arith in
     let few : c.part_of.result ≤ c.end_of_slice-end.result - c.args.from = let fewer = taken_few (c.end_of_slice-end.result - c.args.from) rest in omega (arith, inside, fewer) in
     let same = take-take c.part_of.result (c.end_of_slice-end.result - c.args.from) rest few in
-    subst (λ (n : ℕ). IsSlice (map said (take n rest))) (sym count) (subst (λ xs. IsSlice (map said xs)) same c.part_of.ensures.slice)
+    subst (λ (n : ℕ). IsSlice (map request_of (take n rest))) (sym count) (subst (λ xs. IsSlice (map request_of xs)) same c.part_of.ensures.slice)

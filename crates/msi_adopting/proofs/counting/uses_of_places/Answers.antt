@@ -5,13 +5,13 @@ use Rattle.std.proofs.Math.Seq.{take-append_seam}
 use Rattle.std.proofs.lemmas.List.{drop_more, length-map, length-replicate}
 use Rattle.std.proofs.lemmas.Result.{IfOk-weaker}
 use Rattle.std.specs.Rc.{rc_value}
-use Rattle.cfb.specs.Views.{letters_in}
-use Rattle.cfb_medium.specs.Calls.{IsFaultUnless}
+use Rattle.cfb.specs.Views.{file_case_table}
+use Rattle.cfb_medium.specs.Calls.{IsFaultOrInvalidInputIf}
 use Rattle.cfb_medium.specs.declared.error.Error.TheVariants.{InvalidData}
-use Rattle.cfb_tree.specs.Names.{Letters}
+use Rattle.cfb_tree.specs.Names.{CaseTable}
 use Rattle.cfb_tree.specs.Tree.{Tree}
-use Rattle.msi_judge.proofs.Steps.{memory_cause, takes_so}
-use Rattle.msi_judge.specs.Counting.{TakesRows}
+use Rattle.msi_soundness.proofs.Steps.{memory_cause, takes_so}
+use Rattle.msi_soundness.specs.Counting.{RefcountsTaken}
 use Rattle.msi_schema.specs.Headings.{headings_in}
 use Rattle.msi_stored.proofs.Later.{later}
 use Rattle.msi_stored.proofs.StoredLaws.{file_cause, file_refl, file_then}
@@ -31,7 +31,7 @@ loop-table-init g c = record {
   rests = file_refl c.args.file.now;
   size = ap length c.in_ok-left.ensures.full ∙ length-replicate c.num_strings.result 65535 ∙ c.num_strings.ensures;
   so_far = λ tree held.
-      let letters = letters_in c.args.file.now in
+      let letters = file_case_table c.args.file.now in
       let hs = headings_in c.args.tables.now in
       let n = length c.args.pool.now.pool.places in
       let same : c.in_ok-left.left.items ≡ full_counts n = c.in_ok-left.ensures.full ∙ ap full_counts c.num_strings.ensures in
@@ -40,7 +40,7 @@ loop-table-init g c = record {
 
 pub loop-table-preserved : goal.loop-table-preserved
 loop-table-preserved g c = record {
-  rests = file_then c.args.file.now c.loop-table.file c.take_uses.new.file c.loop-table.invariant.rests c.in-Ok-true.ensures.rests;
+  rests = file_then c.args.file.now c.loop-table.file c.take_uses.new.file c.loop-table.invariant.rests c.in-Ok-true.ensures.only_reads;
   size =
       let new = c.take_uses.new.left in
       let size : length new ≡ c.loop-table.left.len = omega arith in
@@ -48,7 +48,7 @@ loop-table-preserved g c = record {
       let whole : length new ≡ length c.args.pool.now.pool.places = omega (arith, before) in
       ap length (written c.loop-table.left.len new (drop (length new) c.loop-table.left.items) size) ∙ whole;
   so_far = λ tree held.
-      let letters = letters_in c.args.file.now in
+      let letters = file_case_table c.args.file.now in
       let tables = c.args.tables.now in
       let n = length c.args.pool.now.pool.places in
       let all = headings_in tables in
@@ -60,7 +60,7 @@ loop-table-preserved g c = record {
       let more : headings_in (drop i tables) ≡ heading_of (rc_value item) ∷ hs =
       ap headings_in (drop_more tables i item c.loop-table-test.true ∙ ap (λ t. t ∷ drop (i + 1) tables) (sym c.table-item.is)) in
       let takes = takes_so c.args.file.now c.loop-table.file c.loop-table.invariant.rests c.deref.result.now item c.deref.ensures c.deref_mut.result.now left new c.deref_mut.ensures.value
-      c.in-Ok-true.field-0 true c.in-Ok-true.field-0-test c.in-Ok-true.ensures.told tree held in
+      c.in-Ok-true.field-0 true c.in-Ok-true.field-0-test c.in-Ok-true.ensures.answer tree held in
       let so : SoFar letters tree n all (heading_of (rc_value item) ∷ hs) left = subst (λ (ks : List Heading). SoFar letters tree n all ks left) more (c.loop-table.invariant.so_far tree held) in
       let size : length new ≡ c.loop-table.left.len = omega arith in
       let first = so.size in
@@ -69,9 +69,9 @@ loop-table-preserved g c = record {
       (goes_on letters tree n all (heading_of (rc_value item)) hs left new so takes whole);
 }
 
-pub returns-in-Ok-false-clause-told : goal.returns-in-Ok-false-clause-told
-returns-in-Ok-false-clause-told g c tree held =
-    let letters = letters_in c.args.file.now in
+pub returns-in-Ok-false-clause-answer : goal.returns-in-Ok-false-clause-answer
+returns-in-Ok-false-clause-answer g c tree held =
+    let letters = file_case_table c.args.file.now in
     let tables = c.args.tables.now in
     let n = length c.args.pool.now.pool.places in
     let all = headings_in tables in
@@ -83,16 +83,16 @@ returns-in-Ok-false-clause-told g c tree held =
     let more : headings_in (drop i tables) ≡ heading_of (rc_value item) ∷ hs =
     ap headings_in (drop_more tables i item c.loop-table-test.true ∙ ap (λ t. t ∷ drop (i + 1) tables) (sym c.table-item.is)) in
     let takes = takes_so c.args.file.now c.loop-table.file c.loop-table.invariant.rests c.deref.result.now item c.deref.ensures c.deref_mut.result.now left new c.deref_mut.ensures.value
-    c.in-Ok-false.field-0 false c.in-Ok-false.field-0-test c.in-Ok-false.ensures.told tree held in
+    c.in-Ok-false.field-0 false c.in-Ok-false.field-0-test c.in-Ok-false.ensures.answer tree held in
     let so : SoFar letters tree n all (heading_of (rc_value item) ∷ hs) left = subst (λ (ks : List Heading). SoFar letters tree n all ks left) more (c.loop-table.invariant.so_far tree held) in
     inr (refl, λ can. ends_short letters tree n all (heading_of (rc_value item)) hs left new so takes can)
 
-pub returns-in-Ok-false-clause-rests : goal.returns-in-Ok-false-clause-rests
-returns-in-Ok-false-clause-rests g c = file_then c.args.file.now c.loop-table.file c.take_uses.new.file c.loop-table.invariant.rests c.in-Ok-false.ensures.rests
+pub returns-in-Ok-false-clause-only_reads : goal.returns-in-Ok-false-clause-only_reads
+returns-in-Ok-false-clause-only_reads g c = file_then c.args.file.now c.loop-table.file c.take_uses.new.file c.loop-table.invariant.rests c.in-Ok-false.ensures.only_reads
 
-pub returns-in-Err-clause-told : goal.returns-in-Err-clause-told
-returns-in-Err-clause-told g c tree held =
-    let letters = letters_in c.args.file.now in
+pub returns-in-Err-clause-answer : goal.returns-in-Err-clause-answer
+returns-in-Err-clause-answer g c tree held =
+    let letters = file_case_table c.args.file.now in
     let tables = c.args.tables.now in
     let n = length c.args.pool.now.pool.places in
     let all = headings_in tables in
@@ -106,38 +106,38 @@ returns-in-Err-clause-told g c tree held =
     let more : headings_in (drop i tables) ≡ heading_of (rc_value item) ∷ hs =
     ap headings_in (drop_more tables i item c.loop-table-test.true ∙ ap (λ t. t ∷ drop (i + 1) tables) (sym c.table-item.is)) in
     let so : SoFar letters tree n all (heading_of (rc_value item) ∷ hs) left = subst (λ (ks : List Heading). SoFar letters tree n all ks left) more (c.loop-table.invariant.so_far tree held) in
-    let told = later c.args.file.now c.loop-table.file (λ (l : Letters) (t : Tree). IsFaultUnless ⊥ e ⊎ ((e ≡ InvalidData) × TakesRows l t (heading_of c.deref.result.now) slice new false))
-    c.loop-table.invariant.rests c.in-Err.ensures.told tree held in
+    let told = later c.args.file.now c.loop-table.file (λ (l : CaseTable) (t : Tree). IsFaultOrInvalidInputIf ⊥ e ⊎ ((e ≡ InvalidData) × RefcountsTaken l t (heading_of c.deref.result.now) slice new false))
+    c.loop-table.invariant.rests c.in-Err.ensures.answer tree held in
     ⊎_elim (λ fault. inl fault)
     (λ both. inr (
       both.0,
       λ can. ends_short letters tree n all (heading_of (rc_value item)) hs left new so
-          (subst (λ (l : List ℕ). TakesRows letters tree (heading_of (rc_value item)) l new false) c.deref_mut.ensures.value
-          (subst (λ (t : HeldTable). TakesRows letters tree (heading_of t) slice new false) c.deref.ensures both.1)) can,
+          (subst (λ (l : List ℕ). RefcountsTaken letters tree (heading_of (rc_value item)) l new false) c.deref_mut.ensures.value
+          (subst (λ (t : HeldTable). RefcountsTaken letters tree (heading_of t) slice new false) c.deref.ensures both.1)) can,
     )) told
 
-pub returns-in-Err-clause-rests : goal.returns-in-Err-clause-rests
-returns-in-Err-clause-rests g c = file_then c.args.file.now c.loop-table.file c.take_uses.new.file c.loop-table.invariant.rests c.in-Err.ensures.rests
+pub returns-in-Err-clause-only_reads : goal.returns-in-Err-clause-only_reads
+returns-in-Err-clause-only_reads g c = file_then c.args.file.now c.loop-table.file c.take_uses.new.file c.loop-table.invariant.rests c.in-Err.ensures.only_reads
 
 pub returns-in-Err-clause-cause : goal.returns-in-Err-clause-cause
 returns-in-Err-clause-cause g c = file_cause c.args.file.now c.loop-table.file c.take_uses.new.file c.in-Err.error c.loop-table.invariant.rests c.in-Err.ensures.cause
 
-pub returns-clause-told : goal.returns-clause-told
-returns-clause-told g c tree held =
-    let letters = letters_in c.args.file.now in
+pub returns-clause-answer : goal.returns-clause-answer
+returns-clause-answer g c tree held =
+    let letters = file_case_table c.args.file.now in
     let tables = c.args.tables.now in
     let n = length c.args.pool.now.pool.places in
     let all = headings_in tables in
     let left = c.loop-table.left.items in
     let none : headings_in (drop c.loop-table.table-index tables) ≡ [] = ap headings_in (drop_of_length-le tables c.loop-table-test.false) in
     let so : SoFar letters tree n all [] left = subst (λ (ks : List Heading). SoFar letters tree n all ks left) none (c.loop-table.invariant.so_far tree held) in
-    ended letters tree n all left c.uses_taken.result so (subst (λ (l : List ℕ). IfOk c.uses_taken.result (λ uses. uses.items ≡ map (λ n. 65535 - n) l)) c.deref-2.ensures.value c.uses_taken.ensures.taken) c.uses_taken.ensures.error
+    ended letters tree n all left c.uses_taken.result so (subst (λ (l : List ℕ). IfOk c.uses_taken.result (λ uses. uses.items ≡ map (λ n. 65535 - n) l)) c.deref-2.ensures.value c.uses_taken.ensures.taken) c.uses_taken.ensures.errors
 
 pub returns-clause-cause : goal.returns-clause-cause
-returns-clause-cause g c = memory_cause c.args.file.now c.loop-table.file c.uses_taken.result c.uses_taken.ensures.error
+returns-clause-cause g c = memory_cause c.args.file.now c.loop-table.file c.uses_taken.result c.uses_taken.ensures.errors
 
-pub returns-in_err-left-clause-rests : goal.returns-in_err-left-clause-rests
-returns-in_err-left-clause-rests g c = file_refl c.args.file.now
+pub returns-in_err-left-clause-only_reads : goal.returns-in_err-left-clause-only_reads
+returns-in_err-left-clause-only_reads g c = file_refl c.args.file.now
 
 pub returns-clause-size : goal.returns-clause-size
 returns-clause-size g c =

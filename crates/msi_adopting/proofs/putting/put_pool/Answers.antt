@@ -3,8 +3,8 @@ use Rattle.cfb_entries.specs.Rules.{names_in}
 use Rattle.msi_adopting.proofs.Put.{rewrite_fault, rewritten}
 use Rattle.msi_adopting.proofs.putting.put_pool.Goals as goal
 
-pub returns-in-Err-rewrite_stream-clause-refused : goal.returns-in-Err-rewrite_stream-clause-refused
-returns-in-Err-rewrite_stream-clause-refused g c tree P m gets =
+pub returns-in-Err-rewrite_stream-clause-refused_only_if : goal.returns-in-Err-rewrite_stream-clause-refused_only_if
+returns-in-Err-rewrite_stream-clause-refused_only_if g c tree P m gets =
     inl (rewrite_fault (names_in c.deref.result.now) (ap names_in c.deref.ensures ∙ c.in-Ok.ensures.path) c.args.file.now tree P m c.args.pool.now gets c.rewrite_stream.new.self
     c.in-Err-rewrite_stream.error c.in-Err-rewrite_stream.ensures.puts)
 

@@ -2,7 +2,7 @@ use Rattle.std.proofs.Common.{◌≡◌, ◌∙◌, [], ◌∷◌, ap, true, enc
 use Rattle.std.specs.Prelude.{chars, string_bytes}
 use Rattle.std.proofs.lemmas.Result.{IfOk-weaker}
 use Rattle.cfb_entries.specs.Rules.{names_in}
-use Rattle.msi_meaning.specs.Package.{stream_name}
+use Rattle.msi_spec.specs.Package.{stream_name}
 use Rattle.msi_stored.proofs.Children.{table_path}
 use Rattle.msi_texts.specs.StreamName.{spelled_name}
 use Rattle.msi_adopting.proofs.putting.table_path.Goals as goal

@@ -10,8 +10,8 @@ use Rattle.msi_changes.specs.Said.{sets_of}
 use Rattle.msi_changes.proofs.Updating.{unset, repeated, sets_valid, condition_known, key_set}
 use Rattle.msi_changes.proofs.update.judge.Goals as goal
 
-pub returns-then-not-are_sets-clause-refused : goal.returns-then-not-are_sets-clause-refused
-returns-then-not-are_sets-clause-refused c =
+pub returns-then-not-are_sets-clause-refused_only_if : goal.returns-then-not-are_sets-clause-refused_only_if
+returns-then-not-are_sets-clause-refused_only_if c =
     inr (unset c.args.pool.now.pool (with_rows (heading_of (rc_value c.args.table.now)) (rows_held c.args.rows.now)) (sets_of c.args.sets.now) (condition_of c.args.condition.now)
     (sets_valid _ c.args.table.now.value c.args.sets.now _ c.deref.ensures (sym c.if-not-are_sets.true ∙ c.are_sets.ensures)))
 
@@ -22,8 +22,8 @@ returns-then-not-sets_key-clause-accepted c = record {
   distinct = ap (λ b. not b || are_distinct (keys_after c.args.pool.now.pool (with_rows (heading_of (rc_value c.args.table.now)) (rows_held c.args.rows.now)) (sets_of c.args.sets.now) (condition_of c.args.condition.now))) (key_set _ c.args.table.now.value c.args.sets.now _ c.deref-3.ensures (sym c.if-not-sets_key.true ∙ c.sets_key.ensures));
 }
 
-pub returns-in-None-clause-refused : goal.returns-in-None-clause-refused
-returns-in-None-clause-refused c =
+pub returns-in-None-clause-refused_only_if : goal.returns-in-None-clause-refused_only_if
+returns-in-None-clause-refused_only_if c =
     let twice = (rw c.in-None.is at c.in_ok-key_set.ensures.ok) in
     inr (repeated c.args.pool.now.pool (with_rows (heading_of (rc_value c.args.table.now)) (rows_held c.args.rows.now)) (sets_of c.args.sets.now) (condition_of c.args.condition.now)
     (sets_valid _ c.args.table.now.value c.args.sets.now _ c.deref.ensures (sym c.if-not-are_sets.false ∙ c.are_sets.ensures))

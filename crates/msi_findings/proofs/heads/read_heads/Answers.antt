@@ -6,7 +6,7 @@ use Rattle.msi_findings.proofs.heads.read_heads.Goals as goal
 
 pub returns-in_err-read_head : goal.returns-in_err-read_head
 returns-in_err-read_head c =
-    let whole = c.loop-rest.invariant.2 ∙ heads_refused c.loop-rest.invariant.0 c.loop-rest.rest.now c.in_err-read_head.field-0.0 c.loop-rest.heads.items c.loop-rest.invariant.1 (omega arith) c.in_err-read_head.ensures.error in
+    let whole = c.loop-rest.invariant.2 ∙ heads_refused c.loop-rest.invariant.0 c.loop-rest.rest.now c.in_err-read_head.field-0.0 c.loop-rest.heads.items c.loop-rest.invariant.1 (omega arith) c.in_err-read_head.ensures.errors in
     grind (arith, whole)
 
 pub loop-rest-preserved : goal.loop-rest-preserved

@@ -2,30 +2,30 @@ use Rattle.std.proofs.Common.{◌≡◌, ◌∙◌, map, ap, sym, subst, inl, in
 use Rattle.std.specs.Prelude.{IfOk}
 use Rattle.std.specs.Rc.{rc_value}
 use Rattle.cfb.proofs.Holding.{holds_shown}
-use Rattle.cfb.specs.Views.{letters_in}
+use Rattle.cfb.specs.Views.{file_case_table}
 use Rattle.cfb_entries.specs.Listed.{listed, listed_in}
 use Rattle.cfb_entries.specs.Lists.{entries_left}
-use Rattle.cfb_medium.specs.Calls.{IsFaultUnless}
+use Rattle.cfb_medium.specs.Calls.{IsFaultOrInvalidInputIf}
 use Rattle.msi_findings.specs.Misplaced.{names_of}
-use Rattle.msi_findings.specs.Placing.{misplaced_in, HasKeys}
+use Rattle.msi_findings.specs.Placing.{misplaced_in, KeysMatchHeadings}
 use Rattle.msi_findings.proofs.Placed.{told_misplaced}
 use Rattle.msi_findings.proofs.objects.misplaced_objects.Goals as goal
 use Rattle.msi_store.proofs.Placed.{listed_same}
 use Rattle.msi_tables.specs.Held.{heading_of}
 
-pub returns-in-Ok-clause-told : goal.returns-in-Ok-clause-told
-returns-in-Ok-clause-told g c tree held =
-    let letters = letters_in c.args.file.now in
+pub returns-in-Ok-clause-answer : goal.returns-in-Ok-clause-answer
+returns-in-Ok-clause-answer g c tree held =
+    let letters = file_case_table c.args.file.now in
     let headings = map (λ t. heading_of (rc_value t)) c.args.tables.now in
-    let told = (c.in-Ok.ensures.told held.live tree (holds_shown c.args.file.now tree held)).0 in
+    let told = (c.in-Ok.ensures.answer held.live tree (holds_shown c.args.file.now tree held)).0 in
     told_misplaced letters headings tree.content c.among.result
     (subst (λ ls. IfOk c.among.result (λ found. names_of found.items ≡ misplaced_in letters headings ls)) (told.2 ∙ ap (map listed) (listed_same tree.content told.0 told.1))
     (subst (λ l. IfOk c.among.result (λ found. names_of found.items ≡ misplaced_in l headings (map listed_in (entries_left c.in-Ok.entries)))) c.letters-in-Ok.ensures
-    (c.among.ensures.ok headings (subst (λ l. HasKeys l headings c.in_ok-names.names) (c.letters.ensures ∙ sym c.letters-in-Ok.ensures) c.in_ok-names.ensures.ok))))
-    c.among.ensures.err
+    (c.among.ensures.ok headings (subst (λ l. KeysMatchHeadings l headings c.in_ok-names.names) (c.letters.ensures ∙ sym c.letters-in-Ok.ensures) c.in_ok-names.ensures.ok))))
+    c.among.ensures.errors
 
-pub returns-clause-told : goal.returns-clause-told
-returns-clause-told g c tree held = elim (c.in-Err.ensures.told held.live tree (holds_shown c.args.file.now tree held)).1 [
-  | inl memory ↦ subst (IsFaultUnless ⊥) (sym memory) tt
+pub returns-clause-answer : goal.returns-clause-answer
+returns-clause-answer g c tree held = elim (c.in-Err.ensures.answer held.live tree (holds_shown c.args.file.now tree held)).1 [
+  | inl memory ↦ subst (IsFaultOrInvalidInputIf ⊥) (sym memory) tt
   | inr answer ↦ absurd (cc)
 ]

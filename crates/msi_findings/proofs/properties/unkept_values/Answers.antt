@@ -17,4 +17,4 @@ returns c =
     let told = rw c.deref.ensures.value at c.unkept_among.ensures.ok in
     unkept_so c.args.bytes.now c.section_of-section.result.now c.in_ok-set.set.props c.in_ok-set.ensures.read c.section_of-section.ensures c.in_ok-pairs.pairs.items c.in_ok-pairs.ensures c.unkept_among.result
     (subst (λ (p : CodePage). (version : ℕ) (values : List (ℕ × Property)) → properties_at version c.section_of-section.result.now c.in_ok-pairs.pairs.items ≡ Ok values → IfOk c.unkept_among.result (λ found. found.items ≡ unkept_numbers p values)) c.codepage.ensures told)
-    c.unkept_among.ensures.err
+    c.unkept_among.ensures.errors

@@ -7,13 +7,13 @@ use Rattle.msi_findings.proofs.section.read_pairs.Goals as goal
 pub returns-in_err-number : goal.returns-in_err-number
 returns-in_err-number c =
     let left = c.args.count - c.loop.counter - 1 in
-    let whole = c.loop.invariant (suc left) (omega arith) ∙ number_refused left c.loop.reader.now c.loop.pairs.entries c.in_err-number.field-0.0 c.in_err-number.ensures.error in
+    let whole = c.loop.invariant (suc left) (omega arith) ∙ number_refused left c.loop.reader.now c.loop.pairs.entries c.in_err-number.field-0.0 c.in_err-number.ensures.errors in
     grind (arith, whole)
 
 pub returns-in_err-offset : goal.returns-in_err-offset
 returns-in_err-offset c =
     let left = c.args.count - c.loop.counter - 1 in
-    let whole = c.loop.invariant (suc left) (omega arith) ∙ offset_refused left c.loop.reader.now c.loop.pairs.entries c.in_ok-number.number c.read_u32.new.reader.now c.in_ok-number.ensures.ok c.in_err-offset.field-0.0 c.in_err-offset.ensures.error in
+    let whole = c.loop.invariant (suc left) (omega arith) ∙ offset_refused left c.loop.reader.now c.loop.pairs.entries c.in_ok-number.number c.read_u32.new.reader.now c.in_ok-number.ensures.ok c.in_err-offset.field-0.0 c.in_err-offset.ensures.errors in
     grind (arith, whole)
 
 pub returns-then-contains_key : goal.returns-then-contains_key

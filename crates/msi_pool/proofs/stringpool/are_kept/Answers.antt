@@ -1,6 +1,6 @@
 use Rattle.std.proofs.Common.{◌≡◌, ◌∙◌, arith, sym, subst, ap, ℕ, List}
 use Rattle.msi_pool.specs.PoolKept.{AreKept, IsKeptPlace}
-use Rattle.msi_pool.specs.Pool.{Place}
+use Rattle.msi_pool.specs.Pool.{PoolEntry}
 use Rattle.msi_pool.proofs.PoolFits.{KeptTo, kept_more, kept_one, kept_all}
 use Rattle.msi_pool.proofs.stringpool.are_kept.Goals as goal
 

@@ -3,7 +3,7 @@ use Rattle.std.proofs.lemmas.List.{map-append}
 use Rattle.msi_expr.specs.Formula.{formula_of}
 use Rattle.msi_query.proofs.Pairs.{inner_done}
 use Rattle.msi_query.specs.Answered.{answered}
-use Rattle.msi_expr.specs.Conditions.{knows}
+use Rattle.msi_expr.specs.Conditions.{has_named_columns}
 use Rattle.msi_query.specs.Query.{pairs_with, side_columns}
 use Rattle.msi_columns.specs.Column.{side_column}
 use Rattle.std.specs.List.{flat_map}
@@ -25,7 +25,7 @@ returns-clause-answer c =
     c.in_ok-others.ensures.ok ∙ ap₂ (λ name cs. map (side_column name) cs) c.name-2.ensures c.columns-2.ensures in
     let columns : h.columns ≡ side_columns l ++ side_columns r =
     ap (λ x. x.columns) made ∙ ap columns_of c.in_ok-append.ensures.items ∙ map-append column_of c.in_ok-columns.columns.items c.in_ok-others.others.items ∙ ap₂ (λ xs ys. xs ++ ys) own others in
-    let known : knows h.columns on ≡ true = sym c.in_ok-knows.ensures.ok ∙ c.if-not-branch.false in
+    let known : has_named_columns h.columns on ≡ true = sym c.in_ok-knows.ensures.ok ∙ c.if-not-branch.false in
     let name : h.name ≡ [] = ap (λ x. x.name) made ∙ c.new.ensures.bytes in
     let shared : (heading_of (rc_value c.in_ok-shared.shared)).columns ≡ h.columns = ap (λ t. (heading_of t).columns) c.in_ok-shared.ensures.ok ∙ ap (λ x. x.columns) c.in_ok-clone.ensures.ok in
     let rows : rows_held c.in_ok-rows.rows.items ≡ flat_map (pairs_with c.args.pool.now.pool h.columns on r.rows) l.rows =

@@ -5,7 +5,7 @@ use Rattle.msi_expr.specs.Formula.{formula_of}
 use Rattle.msi_query.proofs.Pairs.{left_done}
 use Rattle.msi_query.specs.Answered.{answered}
 use Rattle.msi_pool.specs.declared.stringref.ValueRef.TheVariants as cell
-use Rattle.msi_expr.specs.Conditions.{knows}
+use Rattle.msi_expr.specs.Conditions.{has_named_columns}
 use Rattle.msi_query.specs.Query.{or_once, pairs_with, side_columns}
 use Rattle.msi_columns.specs.Column.{side_column, but_null}
 use Rattle.std.specs.List.{flat_map}
@@ -27,7 +27,7 @@ returns-clause-answer c =
     c.in_ok-others.ensures.ok ∙ ap₂ (λ name cs. map but_null (map (side_column name) cs)) c.name-2.ensures c.columns-2.ensures in
     let columns : h.columns ≡ side_columns l ++ map but_null (side_columns r) =
     ap (λ x. x.columns) made ∙ ap columns_of c.in_ok-append.ensures.items ∙ map-append column_of c.in_ok-columns.columns.items c.in_ok-others.others.items ∙ ap₂ (λ xs ys. xs ++ ys) own others in
-    let known : knows h.columns on ≡ true = sym c.in_ok-knows.ensures.ok ∙ c.if-not-branch.false in
+    let known : has_named_columns h.columns on ≡ true = sym c.in_ok-knows.ensures.ok ∙ c.if-not-branch.false in
     let many : length c.columns-width.result.now ≡ length r.columns = sym (length-map c.columns-width.result.now column_of) ∙ ap length c.columns-width.ensures in
     let name : h.name ≡ [] = ap (λ x. x.name) made ∙ c.new.ensures.bytes in
     let shared : (heading_of (rc_value c.in_ok-shared.shared)).columns ≡ h.columns = ap (λ t. (heading_of t).columns) c.in_ok-shared.ensures.ok ∙ ap (λ x. x.columns) c.in_ok-clone.ensures.ok in

@@ -4,7 +4,7 @@ use Rattle.msi_query.proofs.Sourced.{first_refused, second_refused, then_both}
 use Rattle.msi_query.specs.Answered.{answered}
 use Rattle.msi_query.specs.Query.{Source, inner_join, inner_joined, left_join, left_joined, selected, source_rows}
 use Rattle.msi_query.specs.Said.{query_of, source_of}
-use Rattle.msi_query.specs.Sources.{AnswersOf, Tables}
+use Rattle.msi_query.specs.Sources.{AnswersOf, TablesByName}
 use Rattle.msi_texts.specs.Results.{◌>>=◌}
 use Rattle.msi_query.proofs.select.+applied.Goals as goal
 
@@ -18,7 +18,7 @@ Join::found_rows-returns-in_ok-second-in-Inner-clause-answer g t c =
     λ s. AnswersOf (g.S.TableSource.has_tables c.args.source.now) (g.S.TableSource.has_cause c.args.source.now c.apply-in-Inner.new.source) answered c.inner_joined.result (λ tables. source_rows tables pool s) in
     let joined : source_of c.args.self.now ≡ inner_join (query_of left) (query_of right) on =
     ap source_of c.in-Inner.is ∙ ap₂ (λ x y. inner_join (query_of x) (query_of y) on) (sym c.deref-in-Inner.ensures) (sym c.deref-in-Inner-2.ensures) in
-    let later : (tables : Tables) → g.S.TableSource.has_tables c.args.source.now tables → selected tables pool (query_of right) ≡ Ok (answered c.in_ok-second-in-Inner.second) =
+    let later : (tables : TablesByName) → g.S.TableSource.has_tables c.args.source.now tables → selected tables pool (query_of right) ≡ Ok (answered c.in_ok-second-in-Inner.second) =
     λ tables has. c.in_ok-second-in-Inner.ensures.answer tables (g.met.S.TableSource.rests_keeps _ _ tables c.in_ok-first-in-Inner.ensures.rests has) in
     subst P (sym joined)
     (then_both (g.S.TableSource.has_tables c.args.source.now) (g.S.TableSource.has_cause c.args.source.now c.apply-in-Inner.new.source) answered c.inner_joined.result
@@ -35,7 +35,7 @@ Join::found_rows-returns-in_ok-second-in-Left-clause-answer g t c =
     λ s. AnswersOf (g.S.TableSource.has_tables c.args.source.now) (g.S.TableSource.has_cause c.args.source.now c.apply-in-Left-2.new.source) answered c.left_joined.result (λ tables. source_rows tables pool s) in
     let joined : source_of c.args.self.now ≡ left_join (query_of left) (query_of right) on =
     ap source_of c.in-Left.is ∙ ap₂ (λ x y. left_join (query_of x) (query_of y) on) (sym c.deref-in-Left.ensures) (sym c.deref-in-Left-2.ensures) in
-    let later : (tables : Tables) → g.S.TableSource.has_tables c.args.source.now tables → selected tables pool (query_of right) ≡ Ok (answered c.in_ok-second-in-Left.second) =
+    let later : (tables : TablesByName) → g.S.TableSource.has_tables c.args.source.now tables → selected tables pool (query_of right) ≡ Ok (answered c.in_ok-second-in-Left.second) =
     λ tables has. c.in_ok-second-in-Left.ensures.answer tables (g.met.S.TableSource.rests_keeps _ _ tables c.in_ok-first-in-Left.ensures.rests has) in
     subst P (sym joined)
     (then_both (g.S.TableSource.has_tables c.args.source.now) (g.S.TableSource.has_cause c.args.source.now c.apply-in-Left-2.new.source) answered c.left_joined.result

@@ -4,7 +4,7 @@ use Rattle.std.specs.Borrow.{Bor}
 use Rattle.std.specs.Int.{w32, cast_unsigned, cast_signed}
 use Rattle.std.proofs.lemmas.Int.{to_z-of_z}
 use Rattle.cfb_medium.specs.declared.error.Error.TheVariants.{InvalidData}
-use Rattle.msi_texts.specs.Results.{Answers, or_refused}
+use Rattle.msi_texts.specs.Results.{ReturnsOrOutOfMemory, or_refused}
 use Rattle.msi_values.specs.Borrowed.{borrowed_data}
 use Rattle.msi_values.specs.declared.borrowed.BorrowedValue.{BorrowedValue}
 use Rattle.msi_columns.specs.Column.{Column, with_bits}
@@ -28,7 +28,7 @@ returns-in_ok-builder-in-Some-validation c =
     ap (λ (v : Option Lent). column_by (option_map (λ r. borrowed_data r.now) v) row) c.in-Some-validation.is
     ∙ headed row (Some (borrowed_data c.in-Some-validation.validation.now)) c.in-Some.name.now c.in-Some.bits c.in-Some.ensures
     ∙ c.in_ok-builder-in-Some-validation.ensures.ok kind.Int16 n in
-    subst (λ (o : Option Column). Answers column_of c.with_bitfield.result (or_refused o InvalidData)) (sym (said ∙ ap (λ m. with_bits m (built c.in_ok-builder-in-Some-validation.builder kind.Int16)) (sym again)))
+    subst (λ (o : Option Column). ReturnsOrOutOfMemory column_of c.with_bitfield.result (or_refused o InvalidData)) (sym (said ∙ ap (λ m. with_bits m (built c.in_ok-builder-in-Some-validation.builder kind.Int16)) (sym again)))
     (bits_answer c.with_bitfield.result (with_bits (cast_unsigned w32 (cast_signed w32 n)) (built c.in_ok-builder-in-Some-validation.builder kind.Int16)) (c.with_bitfield.ensures kind.Int16))
 
 pub returns-in_ok-builder-in-None : goal.returns-in_ok-builder-in-None
@@ -42,5 +42,5 @@ returns-in_ok-builder-in-None c =
     ap (λ (v : Option Lent). column_by (option_map (λ r. borrowed_data r.now) v) row) c.in-None.is
     ∙ headed row None c.in-Some.name.now c.in-Some.bits c.in-Some.ensures
     ∙ undescribed c.in-Some.name.now n kind.Int16 (built c.in_ok-builder-in-None.builder kind.Int16) (c.in_ok-builder-in-None.ensures.ok kind.Int16) in
-    subst (λ (o : Option Column). Answers column_of c.with_bitfield-in-None.result (or_refused o InvalidData)) (sym (said ∙ ap (λ m. with_bits m (built c.in_ok-builder-in-None.builder kind.Int16)) (sym again)))
+    subst (λ (o : Option Column). ReturnsOrOutOfMemory column_of c.with_bitfield-in-None.result (or_refused o InvalidData)) (sym (said ∙ ap (λ m. with_bits m (built c.in_ok-builder-in-None.builder kind.Int16)) (sym again)))
     (bits_answer c.with_bitfield-in-None.result (with_bits (cast_unsigned w32 (cast_signed w32 n)) (built c.in_ok-builder-in-None.builder kind.Int16)) (c.with_bitfield-in-None.ensures kind.Int16))

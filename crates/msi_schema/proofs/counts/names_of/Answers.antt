@@ -9,8 +9,8 @@ use Rattle.msi_schema.proofs.Judged.{row_fails, rows_more}
 use Rattle.msi_schema.proofs.Told.{counted, named_more, nameless}
 use Rattle.msi_schema.proofs.counts.names_of.Goals as goal
 
-pub returns-in_default-clause-err : goal.returns-in_default-clause-err
-returns-in_default-clause-err c =
+pub returns-in_default-clause-errors : goal.returns-in_default-clause-errors
+returns-in_default-clause-errors c =
     let ds = borrowed_data c.row-item.result.items in
     let none : None ≡ text_in (get_or ds 0 null) = c.in_default.ensures ∙ ap text_in c.value_at.ensures ∙ ap (λ r. text_in (get_or (borrowed_data r) 0 null)) c.deref.ensures.value in
     inr (refl, row_fails has_name c.args.tables.now c.loop-row.row-index c.row-item.result c.loop-row-test.true c.row-item.is (nameless ds none))

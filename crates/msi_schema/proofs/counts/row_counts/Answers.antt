@@ -11,8 +11,8 @@ use Rattle.msi_schema.proofs.Judged.{all_more, right_false, row_fails, rows_more
 use Rattle.msi_schema.proofs.Told.{counted, counted_more, counts_few, few, of_none, row_listed, uncounted}
 use Rattle.msi_schema.proofs.counts.row_counts.Goals as goal
 
-pub returns-in_default-clause-err : goal.returns-in_default-clause-err
-returns-in_default-clause-err c =
+pub returns-in_default-clause-errors : goal.returns-in_default-clause-errors
+returns-in_default-clause-errors c =
     let tables = rows_said c.args.tables.now in
     let columns = c.args.columns.now in
     let ds = borrowed_data c.row-item.result.items in
@@ -23,8 +23,8 @@ returns-in_default-clause-err c =
           (row_fails (is_of_listed tables) columns c.loop-row.row-index c.row-item.result c.loop-row-test.true c.row-item.is (of_none ds none tables)),
     )
 
-pub returns-in_default-copied-clause-err : goal.returns-in_default-copied-clause-err
-returns-in_default-copied-clause-err c =
+pub returns-in_default-copied-clause-errors : goal.returns-in_default-copied-clause-errors
+returns-in_default-copied-clause-errors c =
     let tables = rows_said c.args.tables.now in
     let columns = c.args.columns.now in
     let i = c.loop-row.row-index in

@@ -10,15 +10,15 @@ use Rattle.msi_values.specs.declared.borrowed.BorrowedValue.{BorrowedValue}
 use Rattle.msi_columns.specs.Held.{columns_of}
 use Rattle.msi_tables.specs.Schema.{begins_with, names_described, schema_of}
 use Rattle.msi_schema.specs.Columns.{text_in}
-use Rattle.msi_schema.specs.Headings.{at_text, AreFound}
+use Rattle.msi_schema.specs.Headings.{at_text, AreColumnsOfTables}
 use Rattle.msi_schema.specs.Index.{rows_said}
 use Rattle.msi_schema.proofs.FoundMore.{found_put, found_still, still_described}
 use Rattle.msi_schema.proofs.Judged.{all_more, passed_on, refused_none, row_fails, row_passes, rows_more, taken_some, Refuses}
 use Rattle.msi_schema.proofs.Told.{asked_more, begins, bytes_same, counted_at, describes, describes_none}
 use Rattle.msi_schema.proofs.found.described_tables.Goals as goal
 
-pub returns-in_default-clause-err : goal.returns-in_default-clause-err
-returns-in_default-clause-err c = λ rows others one other counted.
+pub returns-in_default-clause-errors : goal.returns-in_default-clause-errors
+returns-in_default-clause-errors c = λ rows others one other counted.
     let ds = borrowed_data c.row-item.result.items in
     let none : None ≡ text_in (get_or ds 0 null) = c.in_default.ensures ∙ ap text_in c.value_at.ensures ∙ ap (λ r. text_in (get_or (borrowed_data r) 0 null)) c.deref.ensures.value in
     inr (refl, row_fails (names_described rows others) c.args.tables.now c.loop-row.row-index c.row-item.result c.loop-row-test.true c.row-item.is (describes_none ds none rows others))
@@ -41,8 +41,8 @@ loop-row-preserved-then-contains_key c = λ rows others one other counted.
           (λ name. ap (list_any (begins_with name)) step ∙ asked_more ds t has done name),
     )
 
-pub returns-in_err-described-clause-err : goal.returns-in_err-described-clause-err
-returns-in_err-described-clause-err c = λ rows others one other counted.
+pub returns-in_err-described-clause-errors : goal.returns-in_err-described-clause-errors
+returns-in_err-described-clause-errors c = λ rows others one other counted.
     let tables = c.args.tables.now in
     let t = c.in-Some.name.now in
     let ds = borrowed_data c.row-item.result.items in
@@ -82,5 +82,5 @@ loop-row-preserved c = λ rows others one other counted.
 pub returns-clause-ok : goal.returns-clause-ok
 returns-clause-ok c = λ rows others one other counted.
     let all : take c.loop-row.row-index c.args.tables.now ≡ c.args.tables.now = take_all c.loop-row.row-index c.args.tables.now c.loop-row-test.false in
-    subst (λ (ts : List (Vec BorrowedValue Global)). (list_all (names_described rows others) (rows_said ts) ≡ true) × AreFound (λ name. list_any (begins_with name) (rows_said ts)) (schema_of rows others) c.loop-row.found)
+    subst (λ (ts : List (Vec BorrowedValue Global)). (list_all (names_described rows others) (rows_said ts) ≡ true) × AreColumnsOfTables (λ name. list_any (begins_with name) (rows_said ts)) (schema_of rows others) c.loop-row.found)
     all (c.loop-row.invariant rows others one other counted)

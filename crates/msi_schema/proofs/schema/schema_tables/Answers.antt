@@ -8,7 +8,7 @@ returns-clause-ok c =
     told_by _ _ _ _ _ _ _ _ (ap rows_said c.deref.ensures.value ∙ c.in_ok-tables.ensures.ok) (ap rows_said c.deref-2.ensures.value ∙ c.in_ok-columns.ensures.ok)
     (ap rows_said c.deref-3.ensures.value ∙ c.in_ok-validation.ensures.ok) c.long_string_refs.ensures c.tables_of_values.result c.tables_of_values.ensures.ok
 
-pub returns-clause-err : goal.returns-clause-err
-returns-clause-err c =
+pub returns-clause-errors : goal.returns-clause-errors
+returns-clause-errors c =
     refused_by _ _ _ _ _ _ (ap rows_said c.deref.ensures.value ∙ c.in_ok-tables.ensures.ok) (ap rows_said c.deref-2.ensures.value ∙ c.in_ok-columns.ensures.ok)
-    (ap rows_said c.deref-3.ensures.value ∙ c.in_ok-validation.ensures.ok) c.tables_of_values.result c.tables_of_values.ensures.err
+    (ap rows_said c.deref-3.ensures.value ∙ c.in_ok-validation.ensures.ok) c.tables_of_values.result c.tables_of_values.ensures.errors

@@ -6,9 +6,9 @@ use Rattle.std.specs.Cmp.Lexicographic.{slice_cmp}
 use Rattle.std.specs.Ordering.{is_eq, nat_cmp}
 use Rattle.std.proofs.lemmas.List.{map-append, map_more}
 use Rattle.std.proofs.lemmas.Str.{chars-encodes, scalars-chars}
-use Rattle.cfb_tree.specs.LetterViews.{letters_of}
+use Rattle.cfb_tree.specs.CaseTableViews.{case_table_of}
 use Rattle.cfb_tree.specs.Names.{name_key}
-use Rattle.msi_meaning.specs.Package.{stream_name}
+use Rattle.msi_spec.specs.Package.{stream_name}
 use Rattle.msi_tables.specs.Held.{heading_of}
 use Rattle.msi_tables.specs.Table.{Heading}
 use Rattle.msi_texts.specs.StreamName.{spelled_name}
@@ -18,7 +18,7 @@ use Rattle.msi_store.proofs.placing.table_keys.Goals as goal
 
 pub loop-table-preserved : goal.loop-table-preserved
 loop-table-preserved c =
-    let letters = letters_of c.args.letters.now in
+    let letters = case_table_of c.args.letters.now in
     let i = c.loop-table.table-index in
     let heads : ℕ → List Heading = λ n. map (λ t. heading_of (rc_value t)) (take n c.args.tables.now) in
     let h = heading_of (rc_value c.table-item.result) in
@@ -34,4 +34,4 @@ loop-table-preserved c =
     ∙ ap (list_any (λ n. is_eq (slice_cmp nat_cmp key (name_key letters n)))) (sym more)
 
 pub returns-clause-ok : goal.returns-clause-ok
-returns-clause-ok c key = c.loop-table.invariant key ∙ ap (λ ts. list_any (λ n. is_eq (slice_cmp nat_cmp key (name_key (letters_of c.args.letters.now) n))) (map (λ h. stream_name h.name) (map (λ t. heading_of (rc_value t)) ts))) (take_all c.loop-table.table-index c.args.tables.now c.loop-table-test.false)
+returns-clause-ok c key = c.loop-table.invariant key ∙ ap (λ ts. list_any (λ n. is_eq (slice_cmp nat_cmp key (name_key (case_table_of c.args.letters.now) n))) (map (λ h. stream_name h.name) (map (λ t. heading_of (rc_value t)) ts))) (take_all c.loop-table.table-index c.args.tables.now c.loop-table-test.false)

@@ -1,7 +1,7 @@
 use Rattle.std.proofs.Common.{◌≡◌, ◌∙◌, ℕ, List, ap, refl, true, chars}
 use Rattle.std.specs.Prelude.{encode_utf8_all, IsUtf8}
 use Rattle.std.proofs.lemmas.Str.{chars-encodes, scalars-chars}
-use Rattle.msi_meaning.specs.Package.{data_name, pool_name, stream_name}
+use Rattle.msi_spec.specs.Package.{data_name, pool_name, stream_name}
 use Rattle.msi_texts.specs.StreamName.{spelled_name}
 use Rattle.msi_texts.proofs.SpelledNames.{scalars-spelled_name}
 use Rattle.msi_store.proofs.placing.table_streams.Goals as goal

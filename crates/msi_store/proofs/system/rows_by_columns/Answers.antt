@@ -1,9 +1,9 @@
 use Rattle.std.proofs.Common.{◌≡◌, ◌∙◌, ap, sym, subst}
 use Rattle.std.specs.Prelude.{Contains, Ok}
-use Rattle.cfb.specs.Views.{letters_in}
+use Rattle.cfb.specs.Views.{file_case_table}
 use Rattle.msi_columns.specs.Held.{columns_of}
-use Rattle.msi_meaning.specs.Opening.{rows_by}
-use Rattle.msi_meaning.specs.Package.{objects, stream_name}
+use Rattle.msi_spec.specs.Opening.{rows_by}
+use Rattle.msi_spec.specs.Package.{objects, stream_name}
 use Rattle.msi_stored.specs.Shown.{FindsPart, bytes_in, opening_names}
 use Rattle.msi_tables.specs.Held.{heading_of, rows_held}
 use Rattle.msi_tables.specs.Rows.{kinds_of}
@@ -13,7 +13,7 @@ use Rattle.msi_store.proofs.system.rows_by_columns.Goals as goal
 
 pub returns-clause-shown : goal.returns-clause-shown
 returns-clause-shown g c tree shown pool long own =
-    let letters = letters_in c.args.file.now in
+    let letters = file_case_table c.args.file.now in
     let bytes = bytes_in c.args.file.now in
     let columns = columns_of c.args.columns.items in
     let h = heading_of c.from_parts-table.result in

@@ -14,8 +14,8 @@ pub returns-in-Err-clause-bytes : goal.returns-in-Err-clause-bytes
 returns-in-Err-clause-bytes c =
     let in_row = longer c.args.index c.args.rows.now c.loop-row.row-index c.row-item.result c.requires c.loop-row-test.true c.row-item.is in
     let next = next_cell c.args.long c.args.coltype c.args.index c.args.rows.now c.loop-row.row-index c.row-item.result c.index.result.now c.loop-row-test.true c.row-item.is in_row c.index.ensures in
-    why c.in-Err.error _ c.in-Err.ensures.kinds (λ same.
-    no_piece c.args.out.now.items c.loop-row.out.items _ _ _ _ next (ap (option_map (le_bytes (width_of c.args.long c.args.coltype))) (c.in-Err.ensures.refused.0 (ap Err same))) c.loop-row.invariant.bytes)
+    why c.in-Err.error _ c.in-Err.ensures.errors (λ same.
+    no_piece c.args.out.now.items c.loop-row.out.items _ _ _ _ next (ap (option_map (le_bytes (width_of c.args.long c.args.coltype))) (c.in-Err.ensures.refused_only_if.0 (ap Err same))) c.loop-row.invariant.bytes)
 
 pub loop-row-preserved : goal.loop-row-preserved
 loop-row-preserved c =

@@ -7,7 +7,7 @@ use Rattle.staged.specs.Device.{times_up}
 use Rattle.staged.specs.Held.{listed}
 use Rattle.staged.specs.Log.{run_count}
 use Rattle.staged.specs.LogWritten.{IsWrittenLog, head_bytes}
-use Rattle.staged.specs.Steps.{BehindGate}
+use Rattle.staged.specs.Steps.{IsBehindLogFlag}
 use Rattle.staged.specs.declared.device.Which.TheVariants.{Log}
 use Rattle.staged.proofs.LogWritten.{HasHead, head_written, whole_log}
 use Rattle.staged.proofs.Reaching.{steps_then, rest_steps, lasts_after}
@@ -15,7 +15,7 @@ use Rattle.staged.proofs.Steps.{same_files, times_sum}
 use Rattle.staged.proofs.publish.write_log.Goals as goal
 
 pub returns-in_err-write_runs-clause-steps : goal.returns-in_err-write_runs-clause-steps
-returns-in_err-write_runs-clause-steps g c = steps_then Log BehindGate g.D.Device g.met.D.Device.counts_now _ _ _ c.write_head.ensures.steps c.write_runs.ensures.steps
+returns-in_err-write_runs-clause-steps g c = steps_then Log IsBehindLogFlag g.D.Device g.met.D.Device.counts_now _ _ _ c.write_head.ensures.steps c.write_runs.ensures.steps
 
 pub returns-clause-written : goal.returns-clause-written
 returns-clause-written g c = λ honest.
@@ -33,15 +33,15 @@ returns-clause-written g c = λ honest.
 
 pub returns-clause-steps : goal.returns-clause-steps
 returns-clause-steps g c =
-    steps_then Log BehindGate g.D.Device g.met.D.Device.counts_now _ _ _ (steps_then Log BehindGate g.D.Device g.met.D.Device.counts_now _ _ _ c.write_head.ensures.steps c.write_runs.ensures.steps)
-    (rest_steps Log BehindGate g.D.Device g.met.D.Device.counts_now _ _ c.sync.ensures.reads.honest (g.met.D.Device.rests_leaves _ _ (c.sync.ensures.reads.rests _ (g.met.D.Device.rests_refl _))))
+    steps_then Log IsBehindLogFlag g.D.Device g.met.D.Device.counts_now _ _ _ (steps_then Log IsBehindLogFlag g.D.Device g.met.D.Device.counts_now _ _ _ c.write_head.ensures.steps c.write_runs.ensures.steps)
+    (rest_steps Log IsBehindLogFlag g.D.Device g.met.D.Device.counts_now _ _ c.sync.ensures.reads.honest (g.met.D.Device.rests_leaves _ _ (c.sync.ensures.reads.rests _ (g.met.D.Device.rests_refl _))))
 
 pub returns-clause-lasts : goal.returns-clause-lasts
 returns-clause-lasts g c = λ honest.
     let h1 = subst (λ (b : Bool). IsTrue b) (sym c.write_head.ensures.honest) honest in
     let h2 = subst (λ (b : Bool). IsTrue b) (sym c.write_runs.ensures.honest) h1 in
     let home = ap (λ (f : Files). f.home) (c.sync.ensures.reads.same h2) ∙ c.in_ok-write_runs.ensures.home h1 ∙ ap (λ (f : Files). f.home) (c.in_ok-write_head.ensures.written honest) in
-    on_ok_weaker c.sync.result (λ kept lasts. lasts_after Log BehindGate g.D.Device g.met.D.Device.counts_now _ _ (returns-clause-steps g c) honest lasts kept
+    on_ok_weaker c.sync.result (λ kept lasts. lasts_after Log IsBehindLogFlag g.D.Device g.met.D.Device.counts_now _ _ (returns-clause-steps g c) honest lasts kept
     (same_files (g.D.Device.content c.sync.new.device) _ _ home refl)) (c.sync.ensures.kept h2)
 
 pub returns-clause-log_writes : goal.returns-clause-log_writes

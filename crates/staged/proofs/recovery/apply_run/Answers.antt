@@ -2,7 +2,7 @@ use Rattle.std.proofs.Common.{◌≡◌, ◌≤◌, ◌<◌, ◌+◌, ◌*◌, �
 use Rattle.staged.specs.Files.{Files}
 use Rattle.staged.specs.Log.{numbered}
 use Rattle.staged.specs.Pages.{written_page, written_pages}
-use Rattle.staged.specs.Steps.{Steps, AtPage}
+use Rattle.staged.specs.Steps.{MakesOnlyWrites, AtPage}
 use Rattle.staged.specs.declared.device.Device.{Ghosts}
 use Rattle.staged.specs.declared.device.Which.TheVariants.{Home}
 use Rattle.staged.proofs.Applied.{one_more}
@@ -27,7 +27,7 @@ loop-index-init g c = record {
 }
 
 -- the page is one of the run
-among : {D : Type 0} (g : Ghosts D) (a b : D) (bytes block : List ℕ) (first count k len : ℕ) → k < count → Steps g Home (AtPage (page (first + k) block ∷ []) len) a b → Steps g Home (AtPage (numbered first count bytes) len) a b
+among : {D : Type 0} (g : Ghosts D) (a b : D) (bytes block : List ℕ) (first count k len : ℕ) → k < count → MakesOnlyWrites g Home (AtPage (page (first + k) block ∷ []) len) a b → MakesOnlyWrites g Home (AtPage (numbered first count bytes) len) a b
 among g a b bytes block first count k len within steps =
     steps_where g Home _ _ a b (λ honest at n one. page_among (page (first + k) block) (numbered first count bytes) len at n (numbered_holds count first (first + k) bytes (omega arith) (omega arith)) one) steps
 

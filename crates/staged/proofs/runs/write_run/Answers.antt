@@ -4,7 +4,7 @@ use Rattle.std.proofs.lemmas.Result.{on_ok_weaker}
 use Rattle.cfb_medium.specs.Bytes.{overwritten}
 use Rattle.staged.specs.Files.{Files}
 use Rattle.staged.specs.LogWritten.{run_bytes}
-use Rattle.staged.specs.Steps.{BehindGate}
+use Rattle.staged.specs.Steps.{IsBehindLogFlag}
 use Rattle.staged.specs.declared.device.Which.TheVariants.{Log}
 use Rattle.staged.proofs.Reaching.{write_steps}
 use Rattle.staged.proofs.RunsWritten.{run_front}
@@ -19,4 +19,4 @@ returns-clause-written g c = λ honest.
     on_ok_weaker c.write_at.result (λ is. is ∙ ap with_log same) (c.write_at.ensures.written honest)
 
 pub returns-clause-steps : goal.returns-clause-steps
-returns-clause-steps g c = write_steps Log BehindGate g.D.Device g.met.D.Device.counts_now c.args.place _ _ _ c.requires.behind c.write_at.ensures.honest c.write_at.ensures.leaves
+returns-clause-steps g c = write_steps Log IsBehindLogFlag g.D.Device g.met.D.Device.counts_now c.args.place _ _ _ c.requires.behind c.write_at.ensures.honest c.write_at.ensures.leaves

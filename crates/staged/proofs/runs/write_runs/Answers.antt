@@ -7,7 +7,7 @@ use Rattle.staged.specs.Held.{listed}
 use Rattle.staged.specs.Log.{has_runs, pages_of_runs}
 use Rattle.staged.specs.LogWritten.{run_bytes}
 use Rattle.staged.specs.Pages.{HoldsPage, page_at}
-use Rattle.staged.specs.Steps.{BehindGate}
+use Rattle.staged.specs.Steps.{IsBehindLogFlag}
 use Rattle.staged.specs.declared.pages.Page.{Page}
 use Rattle.staged.specs.declared.device.Which.TheVariants.{Log}
 use Rattle.staged.proofs.Homed.{held_at}
@@ -61,7 +61,7 @@ loop-number-init g c = (
     log_writes = refl;
     home = λ _. refl;
     stands = λ honest. stands_none (g.D.Device.content c.args.device.now).log (c.requires.headed honest);
-    steps = stay_steps Log BehindGate g.D.Device g.met.D.Device.counts_now g.met.D.Device.only_now c.args.device.now;
+    steps = stay_steps Log IsBehindLogFlag g.D.Device g.met.D.Device.counts_now g.met.D.Device.only_now c.args.device.now;
   },
 )
 
@@ -122,7 +122,7 @@ overflow_sub-number g c =
     omega arith
 
 pub returns-in_err-write_run-clause-steps : goal.returns-in_err-write_run-clause-steps
-returns-in_err-write_run-clause-steps g c = steps_then Log BehindGate g.D.Device g.met.D.Device.counts_now _ _ _ c.loop-number.invariant.3.steps c.write_run.ensures.steps
+returns-in_err-write_run-clause-steps g c = steps_then Log IsBehindLogFlag g.D.Device g.met.D.Device.counts_now _ _ _ c.loop-number.invariant.3.steps c.write_run.ensures.steps
 
 pub loop-number-preserved-then-not-goes_on : goal.loop-number-preserved-then-not-goes_on
 loop-number-preserved-then-not-goes_on g c =
@@ -174,7 +174,7 @@ loop-number-preserved-then-not-goes_on g c =
             subst (λ (l : List ℕ). Stands (g.D.Device.content c.args.device.now).log l (c.loop-number.place + (12 + 512 * (count + 1))) (runs ++ run ∷ []))
             (ap (λ (m : ℕ). overwritten log c.loop-number.place (run_bytes m (count + 1) (take (512 * (count + 1)) (drop 12 after)))) (sym first) ∙ sym (ap (λ (f : Files). f.log) (done.written (was honest))))
             (stands_more (g.D.Device.content c.args.device.now).log log c.loop-number.place runs run is (inv.stands honest));
-        steps = steps_then Log BehindGate g.D.Device g.met.D.Device.counts_now _ _ _ inv.steps done.steps;
+        steps = steps_then Log IsBehindLogFlag g.D.Device g.met.D.Device.counts_now _ _ _ inv.steps done.steps;
       },
     )
 

@@ -1,7 +1,7 @@
 use Rattle.std.proofs.Common.{ℕ, List, drop, length, ◌≡◌, ◌≤◌, ◌<◌, ◌+◌, ◌*◌, IsTrue}
 use Rattle.staged.specs.Held.{listed}
 use Rattle.staged.specs.Device.{times_up}
-use Rattle.staged.specs.Steps.{Steps, BehindGate}
+use Rattle.staged.specs.Steps.{MakesOnlyWrites, IsBehindLogFlag}
 use Rattle.staged.specs.declared.device.Which.TheVariants.{Home, Log}
 use Rattle.staged.proofs.RunsWritten.{Written, Gathered, Stands}
 use Rattle.staged.proofs.runs.write_runs.Given as goal
@@ -21,5 +21,5 @@ invariant-loop-number g l = (k : ℕ) × (drop k l.pages.entries.entries ≡ l.n
   log_writes : g.D.Device.writes l.device Log ≡ times_up (length runs) (g.D.Device.writes l.fn.device Log);
   home : IsTrue (g.D.Device.honest l.fn.device) → (g.D.Device.content l.device).home ≡ (g.D.Device.content l.fn.device).home;
   stands : IsTrue (g.D.Device.honest l.fn.device) → Stands (g.D.Device.content l.fn.device).log (g.D.Device.content l.device).log l.place runs;
-  steps : Steps g.D.Device Log BehindGate l.fn.device l.device;
+  steps : MakesOnlyWrites g.D.Device Log IsBehindLogFlag l.fn.device l.device;
 }

@@ -3,8 +3,8 @@ use Rattle.staged_view.specs.Pieces.{piece_at}
 use Rattle.staged_view.proofs.Placed.{in_gap, in_this}
 use Rattle.staged_view.proofs.pieces.part_at.Goals as goal
 
-pub returns-then-index-pieces-clause-told : goal.returns-then-index-pieces-clause-told
-returns-then-index-pieces-clause-told c = (
+pub returns-then-index-pieces-clause-answer : goal.returns-then-index-pieces-clause-answer
+returns-then-index-pieces-clause-answer c = (
   refl,
   λ number log below from.
       in_gap c.args.pieces.now log c.count_below-index.result number c.requires.rising
@@ -12,8 +12,8 @@ returns-then-index-pieces-clause-told c = (
       (λ less. absurd (let e = c.if-index-pieces.true in omega arith)),
 )
 
-pub returns-then-place-begin-clause-told : goal.returns-then-place-begin-clause-told
-returns-then-place-begin-clause-told c = (
+pub returns-then-place-begin-clause-answer : goal.returns-then-place-begin-clause-answer
+returns-then-place-begin-clause-answer c = (
   refl,
   λ number log below from.
       in_gap c.args.pieces.now log c.count_below-index.result number c.requires.rising
@@ -21,8 +21,8 @@ returns-then-place-begin-clause-told c = (
       (λ less. let e = c.if-place-begin.true in let f = c.least_of.ensures.least in omega arith),
 )
 
-pub returns-clause-told : goal.returns-clause-told
-returns-clause-told c =
+pub returns-clause-answer : goal.returns-clause-answer
+returns-clause-answer c =
     let i = c.count_below-index.result in
     let within : i < length c.args.pieces.now = let e = c.if-index-pieces.false in let f = c.count_below-index.ensures.bound in omega arith in
     let past = c.count_below-index.ensures.past i (omega arith) within in

@@ -6,8 +6,8 @@ use Rattle.cfb.proofs.Published.{left_before, published_so}
 use Rattle.cfb.proofs.Standing.{on_ok}
 use Rattle.cfb.proofs.compound_file.CompoundFile.commit.Goals as goal
 
-pub returns-then-is_failed-clause-left : goal.returns-then-is_failed-clause-left
-returns-then-is_failed-clause-left g c = λ honest.
+pub returns-then-is_failed-clause-crash : goal.returns-then-is_failed-clause-crash
+returns-then-is_failed-clause-crash g c = λ honest.
     let G = g.met.F.ReadMedium in
     let m = medium_of (allocator_of (mini_of c.args.self.now)) in
     left_before (G.continues_leaves m m (G.continues_refl m))
@@ -15,4 +15,4 @@ returns-then-is_failed-clause-left g c = λ honest.
 pub returns-clause-publishes : goal.returns-clause-publishes
 returns-clause-publishes g c =
     let did = c.commit.ensures in
-    on_ok c.commit.result (λ published sound. published) (published_so g.F.Medium.has_published c.args.self.now _ c.commit.result did.memory refl refl did.published did.bytes did.live)
+    on_ok c.commit.result (λ published sound. published) (published_so g.F.Medium.has_published c.args.self.now _ c.commit.result did.memory refl refl did.published did.bytes did.not_failed)

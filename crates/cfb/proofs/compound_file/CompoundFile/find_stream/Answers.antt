@@ -7,16 +7,16 @@ use Rattle.cfb.proofs.Wants.{entry_cause}
 use Rattle.cfb.proofs.StreamsFound.{broken_so, bytes_found, found_so, never_broken, none_ahead, refused_first, refused_so, shown_in}
 use Rattle.cfb.proofs.compound_file.CompoundFile.find_stream.Goals as goal
 
-pub returns-in-Err-stream_at-clause-told : goal.returns-in-Err-stream_at-clause-told
-returns-in-Err-stream_at-clause-told g c = λ tree h.
-    (tt, refused_first c.args.self.now c.args.path.now tree c.in-Err-stream_at.error (c.in-Err-stream_at.ensures.refused tree (shown_in c.args.self.now c.args.path.now tree _ c.entries.ensures h)))
+pub returns-in-Err-stream_at-clause-answer : goal.returns-in-Err-stream_at-clause-answer
+returns-in-Err-stream_at-clause-answer g c = λ tree h.
+    (tt, refused_first c.args.self.now c.args.path.now tree c.in-Err-stream_at.error (c.in-Err-stream_at.ensures.refused_only_if tree (shown_in c.args.self.now c.args.path.now tree _ c.entries.ensures h)))
 
 pub returns-in-Err-stream_at-clause-bytes : goal.returns-in-Err-stream_at-clause-bytes
 returns-in-Err-stream_at-clause-bytes g c = λ tree h.
-    (tt, refused_so c.args.self.now c.args.path.now tree c.in-Err-stream_at.error (c.in-Err-stream_at.ensures.refused tree (shown_in c.args.self.now c.args.path.now tree _ c.entries.ensures (holds_shown c.args.self.now tree h))))
+    (tt, refused_so c.args.self.now c.args.path.now tree c.in-Err-stream_at.error (c.in-Err-stream_at.ensures.refused_only_if tree (shown_in c.args.self.now c.args.path.now tree _ c.entries.ensures (holds_shown c.args.self.now tree h))))
 
-pub returns-in-Err-open_stream-clause-told : goal.returns-in-Err-open_stream-clause-told
-returns-in-Err-open_stream-clause-told g c = λ tree h.
+pub returns-in-Err-open_stream-clause-answer : goal.returns-in-Err-open_stream-clause-answer
+returns-in-Err-open_stream-clause-answer g c = λ tree h.
     let it = c.args.self.now in
     let shown = shown_in it c.args.path.now tree _ c.entries.ensures h in
     let (names, found, kind) = c.in-Ok-stream_at.ensures.found tree shown in
@@ -25,7 +25,7 @@ returns-in-Err-open_stream-clause-told g c = λ tree h.
       tt,
       broken_so it c.args.path.now tree e at c.in-Err-open_stream.error
           (λ wrong sectors lies. c.in-Err-open_stream.ensures.none (ap Err wrong) sectors lies)
-          c.in-Err-open_stream.ensures.error,
+          c.in-Err-open_stream.ensures.errors,
     )
 
 pub returns-in-Err-open_stream-clause-bytes : goal.returns-in-Err-open_stream-clause-bytes
@@ -38,11 +38,11 @@ returns-in-Err-open_stream-clause-bytes g c = λ tree h.
       tt,
       never_broken it c.args.path.now tree e at c.in-Err-open_stream.error
           (λ wrong sectors lies. c.in-Err-open_stream.ensures.none (ap Err wrong) sectors lies)
-          c.in-Err-open_stream.ensures.error h,
+          c.in-Err-open_stream.ensures.errors h,
     )
 
-pub returns-clause-told : goal.returns-clause-told
-returns-clause-told g c = λ tree h.
+pub returns-clause-answer : goal.returns-clause-answer
+returns-clause-answer g c = λ tree h.
     let it = c.args.self.now in
     let links = c.in-Ok-open_stream.links in
     let shown = shown_in it c.args.path.now tree _ c.entries.ensures h in
@@ -78,7 +78,7 @@ returns-clause-bytes g c = λ tree h.
     ((bytes, answer, record { lies = has; ahead = none_ahead c.clear.new.self bytes c.clear.ensures.none }), tt)
 
 pub returns-in-Err-stream_at-clause-cause : goal.returns-in-Err-stream_at-clause-cause
-returns-in-Err-stream_at-clause-cause g c = entry_cause c.args.self.now c.in-Err-stream_at.error c.in-Err-stream_at.ensures.error
+returns-in-Err-stream_at-clause-cause g c = entry_cause c.args.self.now c.in-Err-stream_at.error c.in-Err-stream_at.ensures.errors
 
 pub returns-clause-found : goal.returns-clause-found
 returns-clause-found g c = λ (honest, memory).

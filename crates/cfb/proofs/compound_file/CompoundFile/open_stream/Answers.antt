@@ -1,6 +1,6 @@
 use mathlib.Core.Option.{some}
 use Rattle.std.proofs.Common.{◌≡◌, ◌∙◌, ap, refl, subst, sym}
-use Rattle.cfb.specs.Views.{FileRests}
+use Rattle.cfb.specs.Views.{OnlyReadsFile}
 use Rattle.cfb.specs.Writing.{StreamIsWritten}
 use Rattle.cfb.proofs.compound_file.CompoundFile.open_stream.Goals as goal
 
@@ -13,7 +13,7 @@ returns-in-Ok g c =
       (
         c.new.ensures.same_reference,
         (
-          subst (FileRests it) (sym file) told.rests,
+          subst (OnlyReadsFile it) (sym file) told.only_reads,
           (
             position,
             (
@@ -33,7 +33,7 @@ returns-in-Ok g c =
               (
                 λ tree m. tt,
                 (
-                  λ failed. let never = told.failed failed in absurd (cc),
+                  λ failed. let never = told.when_failed failed in absurd (cc),
                   λ live unsound. let never = told.unsound live unsound in absurd (cc),
                 ),
               ),

@@ -6,4 +6,4 @@ returns-clause-part g c = λ content has. c.read_bytes.ensures.part content has.
 
 pub returns-clause-keeps : goal.returns-clause-keeps
 returns-clause-keeps g c =
-    keeps_by c.args.self.now c.read_bytes.new.mini c.read_bytes.new.ahead c.args.len c.read_bytes.ensures.rests c.read_bytes.ensures.most c.read_bytes.ensures.kept c.read_bytes.ensures.ahead
+    keeps_by c.args.self.now c.read_bytes.new.mini c.read_bytes.new.ahead c.args.len c.read_bytes.ensures.only_reads c.read_bytes.ensures.most c.read_bytes.ensures.kept c.read_bytes.ensures.ahead

@@ -2,8 +2,8 @@ use Rattle.std.proofs.Common.{inl, inr, refl, rules}
 use Rattle.cfb.proofs.StreamsFound.{for_error}
 use Rattle.cfb.proofs.compound_file.CompoundFile.read_more.Goals as goal
 
-pub returns-clause-fault : goal.returns-clause-fault
-returns-clause-fault g c = for_error _ _ c.read_ahead.result (λ e why. elim why [ inl fault ↦ inl fault | inr lost ↦ inr (lost.0, λ content has. lost.1 content has.lies) ]) c.read_ahead.ensures.fault
+pub returns-clause-errors : goal.returns-clause-errors
+returns-clause-errors g c = for_error _ _ c.read_ahead.result (λ e why. elim why [ inl fault ↦ inl fault | inr lost ↦ inr (lost.0, λ content has. lost.1 content has.lies) ]) c.read_ahead.ensures.errors
 
 pub returns-clause-keeps : goal.returns-clause-keeps
 returns-clause-keeps g c = record {

@@ -1,5 +1,5 @@
 use Rattle.std.proofs.Common.{◌≡◌, ◌⊎◌, inr, sym, subst, ⊎_elim}
-use Rattle.cfb_medium.specs.Calls.{HasCause, IsFaultUnless}
+use Rattle.cfb_medium.specs.Calls.{IsJustifiedError, IsFaultOrInvalidInputIf}
 use Rattle.cfb_medium.specs.declared.error.Error.TheVariants.{InvalidData, InvalidInput}
 use Rattle.cfb_fat.specs.Tables.{medium_of}
 use Rattle.cfb_mini.specs.Views.{allocator_of}
@@ -19,17 +19,17 @@ returns-in-Ok-open_by-clause-rolled g c =
     rolls_back g.F.Medium.has_published c.args.validation it c.in-Ok.parts.0 new rolled opens (sym keeps.as_failed) c.in-Ok-open_by.ensures.opened
 
 pub returns-clause-left : goal.returns-clause-left
-returns-clause-left g c = inr (has_lost_all g.F.Medium.has_published c.args.validation c.args.self c.in-Ok.parts.0 c.in-Err-open_by.medium c.husk_of.result c.in-Ok.ensures.rolled c.in-Err-open_by.ensures.left c.husk_of.ensures.medium c.husk_of.ensures.failed)
+returns-clause-left g c = inr (has_lost_all g.F.Medium.has_published c.args.validation c.args.self c.in-Ok.parts.0 c.in-Err-open_by.medium c.husk_of.result c.in-Ok.ensures.rolled c.in-Err-open_by.ensures.left c.husk_of.ensures.medium c.husk_of.ensures.when_failed)
 
 pub returns-clause-unable : goal.returns-clause-unable
 returns-clause-unable g c = λ wrong.
     let is : c.in-Err-open_by.error ≡ InvalidInput = cc in
-    absurd (⊎_elim (λ no. no) (λ other. let never : InvalidInput ≡ InvalidData = other in cc) (subst (λ e. IsFaultUnless ⊥ e ⊎ (e ≡ InvalidData)) is c.in-Err-open_by.ensures.fault))
+    absurd (⊎_elim (λ no. no) (λ other. let never : InvalidInput ≡ InvalidData = other in cc) (subst (λ e. IsFaultOrInvalidInputIf ⊥ e ⊎ (e ≡ InvalidData)) is c.in-Err-open_by.ensures.errors))
 
-pub returns-clause-refused : goal.returns-clause-refused
-returns-clause-refused g c = λ wrong.
+pub returns-clause-refused_only_if : goal.returns-clause-refused_only_if
+returns-clause-refused_only_if g c = λ wrong.
     let is : c.in-Err-open_by.error ≡ InvalidData = cc in
-    cannot_open g.F.Medium.has_published c.args.validation c.args.self c.in-Ok.parts.0 c.in-Ok.ensures.rolled (c.in-Err-open_by.ensures.refused is)
+    cannot_open g.F.Medium.has_published c.args.validation c.args.self c.in-Ok.parts.0 c.in-Ok.ensures.rolled (c.in-Err-open_by.ensures.refused_only_if is)
 
 pub returns-clause-continues : goal.returns-clause-continues
 returns-clause-continues g c = λ start from.
@@ -37,4 +37,4 @@ returns-clause-continues g c = λ start from.
 
 pub returns-clause-cause : goal.returns-clause-cause
 returns-clause-cause g c = λ start from.
-    subst (λ m. HasCause g.F.ReadMedium.failures g.F.ReadMedium.failed start m c.in-Err-open_by.error) (sym c.husk_of.ensures.medium) (c.in-Err-open_by.ensures.cause start (c.in-Ok.ensures.rolled.extends start from))
+    subst (λ m. IsJustifiedError g.F.ReadMedium.failures g.F.ReadMedium.failed start m c.in-Err-open_by.error) (sym c.husk_of.ensures.medium) (c.in-Err-open_by.ensures.cause start (c.in-Ok.ensures.rolled.extends start from))

@@ -1,14 +1,14 @@
 use Rattle.std.proofs.Common.{rules, ◌≡◌, length, take}
 use Rattle.cfb_sectors.proofs.Causes.{passed_on}
-use Rattle.cfb.specs.Streams.{position_of, HasContent, IsFaultOrLost}
+use Rattle.cfb.specs.Streams.{position_of, StreamHasContent, IsFaultOrLost}
 use Rattle.cfb.proofs.PartsRead.{fault_or_lost, part_read}
 use Rattle.cfb.proofs.stream.ReadStream.read.Goals as goal
 
-pub returns-in_err-read_bytes-clause-fault : goal.returns-in_err-read_bytes-clause-fault
-returns-in_err-read_bytes-clause-fault g c =
+pub returns-in_err-read_bytes-clause-errors : goal.returns-in_err-read_bytes-clause-errors
+returns-in_err-read_bytes-clause-errors g c =
     let told = c.in_err-read_bytes.ensures in
     passed_on c.from_residual.result c.in_err-read_bytes.field-0.0 (IsFaultOrLost c.args.self.now) c.from_residual.ensures.1
-    (fault_or_lost (HasContent c.args.self.now) c.in_err-read_bytes.field-0.0 told.fault (λ content has. (told.part content has).1))
+    (fault_or_lost (StreamHasContent c.args.self.now) c.in_err-read_bytes.field-0.0 told.errors (λ content has. (told.part content has).1))
 
 pub returns-clause-read : goal.returns-clause-read
 returns-clause-read g c = λ content has.

@@ -8,7 +8,7 @@ returns-in-Ok g c =
         refl,
         λ _. tt,
         record {
-          rests = c.in-Ok.ensures.rests;
+          rests = c.in-Ok.ensures.only_reads;
           place = c.in-Ok.ensures.unmoved;
           count = c.buffer.ensures.count;
           cause = tt;
@@ -17,10 +17,10 @@ returns-in-Ok g c =
       record {
         leaves = tt;
         bytes = λ path tree content s.
-            subst (λ n. bytes ≡ take (length bytes) (drop n content)) c.in-Ok.ensures.unmoved (c.buffer.ensures.bytes path tree content (c.in-Ok.ensures.rests.keeps path tree content s).0);
+            subst (λ n. bytes ≡ take (length bytes) (drop n content)) c.in-Ok.ensures.unmoved (c.buffer.ensures.bytes path tree content (c.in-Ok.ensures.only_reads.keeps path tree content s).0);
         most = search rules;
         some = search rules;
-        failed = λ wrong. absurd (let no = c.in-Ok.ensures.failed wrong in cc);
+        failed = λ wrong. absurd (let no = c.in-Ok.ensures.when_failed wrong in cc);
         fault = tt;
       },
     )

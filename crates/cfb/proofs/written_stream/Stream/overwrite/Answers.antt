@@ -11,8 +11,8 @@ returns-in-Err-clause-large g c = λ wrong path tree content s.
     let inside = c.requires in
     let len = s.len in omega (arith, past, inside, len)
 
-pub returns-in-Err-clause-refused : goal.returns-in-Err-clause-refused
-returns-in-Err-clause-refused g c = λ wrong. lost_so c.args.self.now (c.in-Err.ensures.refused (err_as c.in-Err.error InvalidData wrong))
+pub returns-in-Err-clause-refused_only_if : goal.returns-in-Err-clause-refused_only_if
+returns-in-Err-clause-refused_only_if g c = λ wrong. lost_so c.args.self.now (c.in-Err.ensures.refused_only_if (err_as c.in-Err.error InvalidData wrong))
 
 pub returns-in-Err-clause-kept : goal.returns-in-Err-clause-kept
 returns-in-Err-clause-kept g c = ⊎_elim (λ failed. inl failed) (λ k. inr (keeps_so c.args.self.now _ k refl refl)) c.in-Err.ensures.kept

@@ -4,8 +4,8 @@ use Rattle.cfb.proofs.written_stream.Stream.read.Goals as goal
 pub returns-clause-read : goal.returns-clause-read
 returns-clause-read g c = λ path tree content s. c.read_some.ensures.read content (stands_read c.args.self.now path tree content s)
 
-pub returns-clause-rests : goal.returns-clause-rests
-returns-clause-rests g c = let same = c.read_some.ensures.same in rests_so c.args.self.now _ same.0 same.1 same.2 c.read_some.ensures.stays
+pub returns-clause-only_reads : goal.returns-clause-only_reads
+returns-clause-only_reads g c = let same = c.read_some.ensures.same in rests_so c.args.self.now _ same.0 same.1 same.2 c.read_some.ensures.stays
 
-pub returns-clause-fault : goal.returns-clause-fault
-returns-clause-fault g c = if_gone c.args.self.now c.read_some.result c.read_some.ensures.fault
+pub returns-clause-errors : goal.returns-clause-errors
+returns-clause-errors g c = if_gone c.args.self.now c.read_some.result c.read_some.ensures.errors

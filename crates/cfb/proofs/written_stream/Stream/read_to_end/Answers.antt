@@ -16,14 +16,14 @@ returns-in-Ok-clause-read g c = λ path tree content s.
     appended c.resize.new.self.len c.len-front.result (stream_len it - place_of it) c.in-Ok.count c.args.bytes.now.items c.deref_mut.result.now c.resize.new.self.items _ c.read.new.buffer wanted
     (c.len-front.ensures ∙ c.args.bytes.now.ok.0) (c.in_ok-resize.ensures.len ∙ end) c.deref_mut.ensures.value items refl c.read.auto.buffer c.in-Ok.ensures.count (c.in-Ok.ensures.read path tree content (stands_as it _ refl refl refl path tree content s)) wanted_len
 
-pub returns-in-Ok-clause-rests : goal.returns-in-Ok-clause-rests
-returns-in-Ok-clause-rests g c = rests_as c.args.self.now _ c.read.new.self refl refl refl refl c.in-Ok.ensures.rests
+pub returns-in-Ok-clause-only_reads : goal.returns-in-Ok-clause-only_reads
+returns-in-Ok-clause-only_reads g c = rests_as c.args.self.now _ c.read.new.self refl refl refl refl c.in-Ok.ensures.only_reads
 
-pub returns-in-Err-clause-rests : goal.returns-in-Err-clause-rests
-returns-in-Err-clause-rests g c = rests_as c.args.self.now _ c.read.new.self refl refl refl refl c.in-Err.ensures.rests
+pub returns-in-Err-clause-only_reads : goal.returns-in-Err-clause-only_reads
+returns-in-Err-clause-only_reads g c = rests_as c.args.self.now _ c.read.new.self refl refl refl refl c.in-Err.ensures.only_reads
 
-pub returns-in-Err-clause-fault : goal.returns-in-Err-clause-fault
-returns-in-Err-clause-fault g c = gone_as c.args.self.now _ c.in-Err.error refl refl refl c.in-Err.ensures.fault
+pub returns-in-Err-clause-errors : goal.returns-in-Err-clause-errors
+returns-in-Err-clause-errors g c = gone_as c.args.self.now _ c.in-Err.error refl refl refl c.in-Err.ensures.errors
 
-pub returns-in_err-resize-clause-rests : goal.returns-in_err-resize-clause-rests
-returns-in_err-resize-clause-rests g c = rests_so c.args.self.now _ refl refl refl (search rules)
+pub returns-in_err-resize-clause-only_reads : goal.returns-in_err-resize-clause-only_reads
+returns-in_err-resize-clause-only_reads g c = rests_so c.args.self.now _ refl refl refl (search rules)

@@ -1,7 +1,7 @@
 use Rattle.std.proofs.Common.{◌<◌, ◌≡◌, ◌∙◌, ap, arith, refl, inl, inr, ⊎_elim}
 use Rattle.cfb_fat.specs.Tables.{version_of}
 use Rattle.cfb_medium.specs.Versions.{stream_len_mask}
-use Rattle.cfb_writing.specs.Streams.{resized}
+use Rattle.cfb_stream_writes.specs.Streams.{resized}
 use Rattle.cfb.specs.Writing.{allocator_under}
 use Rattle.cfb.proofs.Standing.{keeps_as, kept_as, on_err, on_ok, rewrites_as, stands_as}
 use Rattle.cfb.proofs.written_stream.Stream.set_len.Goals as goal
@@ -15,8 +15,8 @@ returns-then-len-ge-TOO_MANY-clause-kept g c = inr (keeps_as c.args.self.now _ r
 pub returns-clause-resized : goal.returns-clause-resized
 returns-clause-resized g c = on_ok c.resize.result (rewrites_as (resized c.args.len) c.args.self.now _ _ refl refl refl) c.resize.ensures.resized
 
-pub returns-clause-refused : goal.returns-clause-refused
-returns-clause-refused g c = λ wrong path tree content s. c.resize.ensures.refused wrong path tree content (stands_as c.args.self.now _ refl refl refl path tree content s)
+pub returns-clause-refused_only_if : goal.returns-clause-refused_only_if
+returns-clause-refused_only_if g c = λ wrong path tree content s. c.resize.ensures.refused_only_if wrong path tree content (stands_as c.args.self.now _ refl refl refl path tree content s)
 
 pub returns-clause-kept : goal.returns-clause-kept
 returns-clause-kept g c = on_err c.resize.result (⊎_elim (λ failed. inl failed) (λ k. inr (kept_as c.args.self.now _ _ refl refl refl k))) c.resize.ensures.kept
@@ -29,9 +29,9 @@ returns-clause-unchanged g c = λ wrong path tree content s. let past : stream_l
     let most : c.stream_len_mask.result ≡ stream_len_mask (version_of (allocator_under c.args.self.now)) = c.stream_len_mask.ensures ∙ ap stream_len_mask c.version.ensures in
     absurd (omega (arith, past, most))
 
-pub returns-clause-full : goal.returns-clause-full
-returns-clause-full g c = λ wrong live.
-    ⊎_elim (λ many. inl many) (λ lacks. inr (λ path tree content s. lacks path tree content (stands_as c.args.self.now _ refl refl refl path tree content s))) (c.resize.ensures.full wrong live)
+pub returns-clause-full_only_if : goal.returns-clause-full_only_if
+returns-clause-full_only_if g c = λ wrong live.
+    ⊎_elim (λ many. inl many) (λ lacks. inr (λ path tree content s. lacks path tree content (stands_as c.args.self.now _ refl refl refl path tree content s))) (c.resize.ensures.full_only_if wrong live)
 
 pub returns-then-is_failed-clause-spared : goal.returns-then-is_failed-clause-spared
 returns-then-is_failed-clause-spared g c = λ past. (tt, keeps_as c.args.self.now _ refl refl refl)

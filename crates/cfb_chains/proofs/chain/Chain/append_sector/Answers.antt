@@ -8,8 +8,8 @@ use Rattle.cfb_sectors.specs.Sectors.{sector_start, Chain as IsChain}
 use Rattle.cfb_chains.proofs.ChainGrowing.{sector_behind}
 use Rattle.cfb_chains.proofs.Ending.{last_behind}
 use Rattle.cfb_chains.specs.ChainViews.{holder_of, position_of, sectors_of, version_of}
-use Rattle.cfb_chains.specs.Changes.{AreAmong}
-use Rattle.cfb_chains.specs.Grown.{IsLinked}
+use Rattle.cfb_chains.specs.Changes.{AreSubsetOf}
+use Rattle.cfb_chains.specs.Grown.{IsChainInTable}
 use Rattle.cfb_chains.specs.LinkViews.{ids_of}
 use Rattle.cfb_chains.proofs.chain.Chain.append_sector.Goals as goal
 
@@ -21,12 +21,12 @@ returns-then-is_failed-clause-grows g c =
 pub returns-in-Err-clause-grows : goal.returns-in-Err-clause-grows
 returns-in-Err-clause-grows g c =
     let it = c.args.self.now in
-    ([], [], ap (λ l. l.sector_ids.items) c.prepare.ensures.links ∙ sym (append-nil (sectors_of it)), g.met.H.GrowsChains.grows_rest [] (holder_of it) _ c.prepare.ensures.rests, λ linked n none k below same. absurd (omega (arith, below)))
+    ([], [], ap (λ l. l.sector_ids.items) c.prepare.ensures.links ∙ sym (append-nil (sectors_of it)), g.met.H.GrowsChains.grows_rest [] (holder_of it) _ c.prepare.ensures.only_reads, λ linked n none k below same. absurd (omega (arith, below)))
 
 pub returns-then-is_full-clause-grows : goal.returns-then-is_full-clause-grows
 returns-then-is_full-clause-grows g c =
     let it = c.args.self.now in
-    ([], [], ap (λ l. l.sector_ids.items) c.prepare.ensures.links ∙ sym (append-nil (sectors_of it)), g.met.H.GrowsChains.grows_rest [] (holder_of it) _ c.prepare.ensures.rests, λ linked n none k below same. absurd (omega (arith, below)))
+    ([], [], ap (λ l. l.sector_ids.items) c.prepare.ensures.links ∙ sym (append-nil (sectors_of it)), g.met.H.GrowsChains.grows_rest [] (holder_of it) _ c.prepare.ensures.only_reads, λ linked n none k below same. absurd (omega (arith, below)))
 
 pub returns-in-Err-reserve_one-clause-grows : goal.returns-in-Err-reserve_one-clause-grows
 returns-in-Err-reserve_one-clause-grows g c =
@@ -57,7 +57,7 @@ returns-in-Ok-clause-grows g c =
       grown.0,
       with_it ∙ ap (λ l. l ++ n ∷ []) same,
       grown.1,
-      λ linked. subst (λ s. AreAmong s grown.0) (sym with_it) (grown.2 (subst (IsLinked (g.H.FreesChains.fat (holder_of c.args.self.now))) (sym same) linked)),
+      λ linked. subst (λ s. AreSubsetOf s grown.0) (sym with_it) (grown.2 (subst (IsChainInTable (g.H.FreesChains.fat (holder_of c.args.self.now))) (sym same) linked)),
     )
 
 pub returns-in-Ok-clause-room : goal.returns-in-Ok-clause-room
@@ -80,11 +80,11 @@ returns-in-Ok-clause-ends g c = λ some. (
   subst (λ k. IsChain (g.H.FreesChains.fat (holder_of c.take_sector.new.self)) k (c.in-Ok.sector_id ∷ [])) (sym (last_behind _ _ c.in-Ok.sector_id c.push_reserved.ensures.0)) c.in-Ok.ensures.ends,
 )
 
-pub returns-in-Err-take_sector-clause-refused : goal.returns-in-Err-take_sector-clause-refused
-returns-in-Err-take_sector-clause-refused g c = λ is.
+pub returns-in-Err-take_sector-clause-refused_only_if : goal.returns-in-Err-take_sector-clause-refused_only_if
+returns-in-Err-take_sector-clause-refused_only_if g c = λ is.
     let table = g.H.FreesChains.fat (holder_of c.args.self.now) in
     let error : c.in-Err-take_sector.error ≡ InvalidData = cc in
-    let refused = c.in-Err-take_sector.ensures.refused (ap Err error) in
+    let refused = c.in-Err-take_sector.ensures.refused_only_if (ap Err error) in
     let same = c.reserve_one.ensures.same.0 in (
       λ orderly ends.
           refused.0 orderly (subst (λ s. 0 < length s → (front : List ℕ) × (last : ℕ) × IsChain table (slice_index s (length s - 1)) (front ++ last ∷ [])) (sym same) ends),

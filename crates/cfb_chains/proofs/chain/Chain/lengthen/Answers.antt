@@ -5,11 +5,11 @@ use Rattle.cfb_chains.specs.ChainViews.{sectors_of}
 use Rattle.cfb_chains.specs.Positions.{sectors_for}
 use Rattle.cfb_chains.proofs.chain.Chain.lengthen.Goals as goal
 
-pub returns-clause-full : goal.returns-clause-full
-returns-clause-full g c = λ is.
+pub returns-clause-full_only_if : goal.returns-clause-full_only_if
+returns-clause-full_only_if g c = λ is.
     let it = c.args.self.now in
     let count = c.needed_sectors-count.ensures ∙ ap (λ v. sectors_for v c.args.len) c.version.ensures in
-    let did = c.lengthen_to.ensures.full is in
+    let did = c.lengthen_to.ensures.full_only_if is in
     let out = c.lengthen_to.ensures.stopped is in
     let had = length (sectors_of it) + length out.more in
     record {

@@ -7,16 +7,16 @@ use Rattle.cfb_chains.proofs.Ending.{no_sector, with_last}
 use Rattle.cfb_chains.proofs.chain.Chain.prepare.Goals as goal
 use Rattle.cfb_chains.proofs.chain.Chain.prepare.Goals.{else-last-via-then-last+else-num_sectors-gt0, else-last-via-else-last}
 
-pub returns-then-num_sectors-gt0-clause-refused : goal.returns-then-num_sectors-gt0-clause-refused
-returns-then-num_sectors-gt0-clause-refused g c = λ is orderly ends.
+pub returns-then-num_sectors-gt0-clause-refused_only_if : goal.returns-then-num_sectors-gt0-clause-refused_only_if
+returns-then-num_sectors-gt0-clause-refused_only_if g c = λ is orderly ends.
     let some : 1 ≤ length (sectors_of c.args.self.now) = omega (arith, c.if-num_sectors-gt0.true, c.num_sectors.ensures) in
     let end = ends some in
     no_sector _ end.0 end.1 _ (sym (c.last_sector_id-last.ensures.some some) ∙ c.if-last.true) end.2
 
-pub returns-in-Err-clause-refused : goal.returns-in-Err-clause-refused
-returns-in-Err-clause-refused g c = λ is orderly ends.
+pub returns-in-Err-clause-refused_only_if : goal.returns-in-Err-clause-refused_only_if
+returns-in-Err-clause-refused_only_if g c = λ is orderly ends.
     let error : c.in-Err.error ≡ InvalidData = cc in
-    let refused = c.in-Err.ensures.refused (ap Err error) orderly in
+    let refused = c.in-Err.ensures.refused_only_if (ap Err error) orderly in
     ⊎_elim
     (λ some.
     let end = ends some.1 in

@@ -2,8 +2,8 @@ use Rattle.std.proofs.Common.{◌⊎◌, ◌+◌, ◌-◌, ◌<◌, ap, drop, le
 use Rattle.cfb_sectors.specs.Sectors.{free, greatest_regular}
 use Rattle.cfb_chains.specs.ChainCalls.{IsCutTo, LacksNumber}
 use Rattle.cfb_chains.specs.ChainViews.{holder_of, sectors_of}
-use Rattle.cfb_chains.specs.Changes.{AreAmong, HaveEntry}
-use Rattle.cfb_chains.specs.Grown.{IsLinked}
+use Rattle.cfb_chains.specs.Changes.{AreSubsetOf, HaveEntry}
+use Rattle.cfb_chains.specs.Grown.{IsChainInTable}
 use Rattle.cfb_chains.specs.Positions.{sectors_for}
 use Rattle.cfb_chains.proofs.chain.Chain.set_len.Goals as goal
 
@@ -18,18 +18,18 @@ returns-then-count-num_sectors-clause-shorter g c = λ shorter.
       frees = (
         cuts.frees.0,
         cuts.frees.1,
-        subst (λ n. OnOk c.cut_to.result (IsLinked (fat (holder_of it)) (sectors_of it) → AreAmong (sectors_of it) cuts.frees.0 × HaveEntry free (fat (holder_of new)) (drop n (sectors_of it)))) count cuts.frees.2,
+        subst (λ n. OnOk c.cut_to.result (IsChainInTable (fat (holder_of it)) (sectors_of it) → AreSubsetOf (sectors_of it) cuts.frees.0 × HaveEntry free (fat (holder_of new)) (drop n (sectors_of it)))) count cuts.frees.2,
       );
       linked = cuts.linked;
       writable = cuts.writable;
       bytes = cuts.bytes;
     }
 
-pub returns-clause-full : goal.returns-clause-full
-returns-clause-full g c = λ is.
+pub returns-clause-full_only_if : goal.returns-clause-full_only_if
+returns-clause-full_only_if g c = λ is.
     let it = c.args.self.now in
     let count = c.needed_sectors-count.ensures ∙ ap (λ v. sectors_for v c.args.len) c.version.ensures in
-    let did = c.lengthen_to.ensures.full is in
+    let did = c.lengthen_to.ensures.full_only_if is in
     let out = c.lengthen_to.ensures.stopped is in
     let had = length (sectors_of it) + length out.more in
     record {

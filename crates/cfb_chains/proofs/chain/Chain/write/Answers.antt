@@ -1,7 +1,7 @@
 use Rattle.std.proofs.Common.{◌≡◌, inl, inr, [], ◌∙◌, sym, subst, refl, arith, Result, Ok, Err, IfOk, OnOk, ⊎_elim}
 use Rattle.std.proofs.lemmas.List.{append-nil}
 use Rattle.cfb_chains.specs.ChainViews.{holder_of, position_of, sectors_of, version_of}
-use Rattle.cfb_chains.specs.Grown.{AreWritable, IsLinked}
+use Rattle.cfb_chains.specs.Grown.{AreSectorsWritable, IsChainInTable}
 use Rattle.cfb_chains.proofs.ChainGrowing.{either_there, ends_here, writable_still}
 use Rattle.cfb_chains.proofs.chain.Chain.write.Goals as goal
 
@@ -35,8 +35,8 @@ returns-then-self-len-clause-keeps g c = on_ok c.write_inside.result _ (
     let then = g.H.ChangesSectors.may_write (holder_of c.write_inside.new.self) in
     let v = version_of c.args.self.now in
     record {
-      linked = λ linked. subst (λ f. IsLinked f (sectors_of c.write_inside.new.self)) (sym fat) (subst (IsLinked (g.H.FreesChains.fat (holder_of c.args.self.now))) (sym c.write_inside.ensures.same.sectors) linked);
-      writable = λ version all. subst (AreWritable then v) (sym c.write_inside.ensures.same.sectors)
+      linked = λ linked. subst (λ f. IsChainInTable f (sectors_of c.write_inside.new.self)) (sym fat) (subst (IsChainInTable (g.H.FreesChains.fat (holder_of c.args.self.now))) (sym c.write_inside.ensures.same.sectors) linked);
+      writable = λ version all. subst (AreSectorsWritable then v) (sym c.write_inside.ensures.same.sectors)
           (writable_still (g.H.ChangesSectors.may_write (holder_of c.args.self.now)) then v (sectors_of c.args.self.now) c.write_inside.ensures.still all);
     })
 

@@ -12,4 +12,4 @@ returns-clause-written g c = λ honest once.
     let fits : length xs ≤ left_in (version_of it) (position_of it) = simp length-take (omega (arith, c.min-count.ensures, c.place-place.ensures.left)) in
     let written = c.in_ok-write_part.ensures.writes c.in_ok-write_part.ensures.there in
     let kept = g.met.H.ChangesSectors.writes_keep _ _ _ _ written in
-    written_at (version_of it) _ _ (sectors_of it) xs (position_of it) _ c.requires fits once c.place-place.ensures.place ((kept.1 c.in_ok-write_part.ensures.live.1).1 honest)
+    written_at (version_of it) _ _ (sectors_of it) xs (position_of it) _ c.requires fits once c.place-place.ensures.place ((kept.1 c.in_ok-write_part.ensures.not_failed.1).1 honest)

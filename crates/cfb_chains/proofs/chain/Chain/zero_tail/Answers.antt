@@ -18,7 +18,7 @@ returns-in-Ok-clause-zeroed g c = λ honest once.
     let zeros = zeros_there v len c.place-place.result.1 c.place-place.ensures.left some in
     let fits : length (replicate {A = ℕ} (tail_in v len) 0) ≤ left_in v len = let tail = tail_left v len some in simp length-replicate (omega (arith, tail)) in
     let kept = g.met.H.ChangesSectors.writes_keep _ _ _ _ (c.in-Ok.ensures.writes c.in-Ok.ensures.there) in
-    let bytes = (kept.1 c.in-Ok.ensures.live.1).1 honest in
+    let bytes = (kept.1 c.in-Ok.ensures.not_failed.1).1 honest in
     written_at v _ _ (sectors_of it) (replicate (tail_in v len) 0) len c.place-place.result.0 inside fits once c.place-place.ensures.place
     (bytes ∙ ap (overwritten (g.H.HasSectors.bytes (holder_of it)) c.place-place.result.0) zeros)
 

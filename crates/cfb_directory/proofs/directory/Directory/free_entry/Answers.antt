@@ -12,8 +12,8 @@ use Rattle.cfb_directory.proofs.directory.Directory.free_entry.Goals as goal
 pub returns-in-Some-clause-grown : goal.returns-in-Some-clause-grown
 returns-in-Some-clause-grown g c = none_grown c.args.self.now _ refl refl c.find_unused.ensures.same
 
-pub returns-in-None-clause-full : goal.returns-in-None-clause-full
-returns-in-None-clause-full g c = λ wrong live. lacks_same c.args.self.now _ refl refl c.find_unused.ensures.same (c.grow.ensures.full wrong live)
+pub returns-in-None-clause-full_only_if : goal.returns-in-None-clause-full_only_if
+returns-in-None-clause-full_only_if g c = λ wrong live. lacks_same c.args.self.now _ refl refl c.find_unused.ensures.same (c.grow.ensures.full_only_if wrong live)
 
 pub returns-in-None-clause-entries : goal.returns-in-None-clause-entries
 returns-in-None-clause-entries g c =

@@ -9,32 +9,32 @@ use Rattle.cfb_sectors.specs.declared.initial.SectorInit.TheVariants.{Dir}
 use Rattle.cfb_chains.specs.LinkViews.{ids_of, links_version}
 use Rattle.cfb_chains.specs.Positions.{sectors_for}
 use Rattle.cfb_fat.specs.Keeping.{fails_cause}
-use Rattle.cfb_fat.specs.Resting.{all_rest_refl}
+use Rattle.cfb_fat.specs.OnlyReads.{all_rest_refl}
 use Rattle.cfb_fat.specs.Tables.{bytes_of, version_of}
-use Rattle.cfb_owned.proofs.GoingOn.{fails_go_on, goes_cause, goes_then}
+use Rattle.cfb_chain_io.proofs.GoingOn.{fails_go_on, goes_cause, goes_then}
 use Rattle.cfb_tree.specs.EntryViews.{entry_in}
-use Rattle.cfb_directory.specs.Growth.{longer, IsCounted}
+use Rattle.cfb_directory.specs.Growth.{longer, HeaderCountsDirectory}
 use Rattle.cfb_directory.specs.Views.{allocator_of, entries_held, links_of}
 use Rattle.cfb_directory.specs.Entries.{entries_in}
 use Rattle.cfb_directory.proofs.Growing.{directory_grown, first_unused, grown_kept, lacks_places, lacks_sector, length_longer, more_is_one, one_more}
 use Rattle.cfb_directory.proofs.directory.Directory.grow.Goals as goal
 
-pub returns-in-Err-write_count-clause-goes_on : goal.returns-in-Err-write_count-clause-goes_on
-returns-in-Err-write_count-clause-goes_on g c =
+pub returns-in-Err-write_count-clause-invariants : goal.returns-in-Err-write_count-clause-invariants
+returns-in-Err-write_count-clause-invariants g c =
     let b = c.write_count.new.allocator in
-    fails_go_on 0 [] (allocator_of c.args.self.now) b b c.fail.new.self (goes_then _ _ _ c.set_chain_len.ensures.goes_on c.write_count.ensures.goes_on) (inr (all_rest_refl b)) c.fail.ensures
+    fails_go_on 0 [] (allocator_of c.args.self.now) b b c.fail.new.self (goes_then _ _ _ c.set_chain_len.ensures.invariants c.write_count.ensures.invariants) (inr (all_rest_refl b)) c.fail.ensures
 
-pub returns-in-Err-write_count-clause-answers : goal.returns-in-Err-write_count-clause-answers
-returns-in-Err-write_count-clause-answers g c =
+pub returns-in-Err-write_count-clause-error_contract : goal.returns-in-Err-write_count-clause-error_contract
+returns-in-Err-write_count-clause-error_contract g c =
     let a = allocator_of c.args.self.now in
     let m = c.set_chain_len.new.allocator in
-    let told = c.in-Err-write_count.ensures.answers in
+    let told = c.in-Err-write_count.ensures.error_contract in
     record {
       live = tt;
       failed = search rules;
       after = inl c.fail.ensures.sectors.failed;
       cause = fails_cause a c.write_count.new.allocator c.fail.new.self c.in-Err-write_count.error
-          (goes_cause a m c.write_count.new.allocator c.in-Err-write_count.error c.set_chain_len.ensures.goes_on c.in_default-set_chain_len.ensures.answers.live.1 told.cause) c.fail.ensures;
+          (goes_cause a m c.write_count.new.allocator c.in-Err-write_count.error c.set_chain_len.ensures.invariants c.in_default-set_chain_len.ensures.error_contract.live.1 told.cause) c.fail.ensures;
       fault = ⊎_elim inl (λ never. absurd never) told.fault;
     }
 
@@ -77,20 +77,20 @@ returns-clause-grown g c = λ has.
     let whole : take (sectors_for (links_version links) ((length c.sector_ids.result.now + 1) * c.sector_len.result)) (ids_of links) ≡ ids_of links = take_all _ (ids_of links) (omega (arith, count)) in
     let is : entries_in c.append_unused.new.self.items.items ≡ longer v (entries_held old) = search rules in
     let counted = c.in_default-write_count.ensures in
-    directory_grown old _ m grown.more has parts.0 parts.1 c.set_chain_len.ensures.goes_on c.write_count.ensures.goes_on grown.chain grown.becomes
+    directory_grown old _ m grown.more has parts.0 parts.1 c.set_chain_len.ensures.invariants c.write_count.ensures.invariants grown.chain grown.becomes
     (grown.content ∙ ap (λ l. joined v (bytes_of (allocator_of old)) l ++ copies (length grown.more) (initial Dir (sector_len v))) whole)
     (counted.leaves honest)
-    (subst (IsCounted (version_of m) (bytes_of c.write_count.new.allocator)) (ap length c.sector_ids-2.ensures) (counted.counted honest))
+    (subst (HeaderCountsDirectory (version_of m) (bytes_of c.write_count.new.allocator)) (ap length c.sector_ids-2.ensures) (counted.counted honest))
     is
 
 pub returns-clause-memory : goal.returns-clause-memory
-returns-clause-memory g c = grown_kept c.args.self.now _ (goes_then _ _ _ c.set_chain_len.ensures.goes_on c.write_count.ensures.goes_on) (returns-clause-grown g c)
+returns-clause-memory g c = grown_kept c.args.self.now _ (goes_then _ _ _ c.set_chain_len.ensures.invariants c.write_count.ensures.invariants) (returns-clause-grown g c)
 
-pub returns-clause-goes_on : goal.returns-clause-goes_on
-returns-clause-goes_on g c = goes_then _ _ _ c.set_chain_len.ensures.goes_on c.write_count.ensures.goes_on
+pub returns-clause-invariants : goal.returns-clause-invariants
+returns-clause-invariants g c = goes_then _ _ _ c.set_chain_len.ensures.invariants c.write_count.ensures.invariants
 
-pub returns-then-first-count-clause-full : goal.returns-then-first-count-clause-full
-returns-then-first-count-clause-full g c = λ wrong live.
+pub returns-then-first-count-clause-full_only_if : goal.returns-then-first-count-clause-full_only_if
+returns-then-first-count-clause-full_only_if g c = λ wrong live.
     let it = c.args.self.now in
     let v = version_of (allocator_of it) in
     let size = length-map it.entries.items.items entry_in in
@@ -99,10 +99,10 @@ returns-then-first-count-clause-full g c = λ wrong live.
     let many = c.if-first-count.true in
     lacks_places it (omega (arith, size, at, count, many)) c.requires
 
-pub returns-in-Err-set_chain_len-clause-full : goal.returns-in-Err-set_chain_len-clause-full
-returns-in-Err-set_chain_len-clause-full g c = λ wrong live.
+pub returns-in-Err-set_chain_len-clause-full_only_if : goal.returns-in-Err-set_chain_len-clause-full_only_if
+returns-in-Err-set_chain_len-clause-full_only_if g c = λ wrong live.
     let it = c.args.self.now in
     let links = links_of it in
     let count = one_more (links_version links) (ids_of links) c.sector_ids.result.now c.version-2.result c.sector_len.result c.sector_ids.ensures c.sector_len.ensures c.version-2.ensures in
     let is : c.in-Err-set_chain_len.error ≡ Full = cc in
-    lacks_sector it _ count (c.in-Err-set_chain_len.ensures.full (ap Err is) live) c.requires
+    lacks_sector it _ count (c.in-Err-set_chain_len.ensures.full_only_if (ap Err is) live) c.requires

@@ -16,9 +16,9 @@ returns-clause-links g c =
     set.2.entries ∙ sym (ap (with_entry (entries_held old) (holder link) (linked_to link target)) set.1) in
     sets_one old new link target set.0 set.2 c.write_link.ensures.noted is
 
-pub returns-in-Err-clause-answers : goal.returns-in-Err-clause-answers
-returns-in-Err-clause-answers g c =
-    let told = c.in-Err.ensures.answers in
+pub returns-in-Err-clause-error_contract : goal.returns-in-Err-clause-error_contract
+returns-in-Err-clause-error_contract g c =
+    let told = c.in-Err.ensures.error_contract in
     record {
       live = tt;
       failed = search rules;

@@ -8,8 +8,8 @@ use Rattle.cfb_medium.specs.Versions.{sector_len}
 use Rattle.cfb_sectors.specs.Held.{bytes_of, count_of, version_of}
 use Rattle.cfb_sectors.specs.Sectors.{end_of_chain, fat_in, filled_part, sector, sector_start, sectors_in}
 use Rattle.cfb_fat.specs.Listed.{Lists}
-use Rattle.cfb_chains.specs.Changes.{IsBeside, IsNoneOf}
-use Rattle.cfb_fat.specs.Orderly.{IsOrderly}
+use Rattle.cfb_chains.specs.Changes.{IsBeside, IsNotIn}
+use Rattle.cfb_fat.specs.Orderly.{AreTablesConsistent}
 use Rattle.cfb_fat.proofs.Appended.{entry_added, listed_before_end, none_behind, whole_before}
 use Rattle.cfb_fat.proofs.EndsKept.{ends_in_front, entry_inside, whole_over}
 use Rattle.cfb_fat.proofs.Entering.{others_stay, rest_below}
@@ -25,7 +25,7 @@ use Rattle.cfb_chains.proofs.LongerTables.{holds_then}
 use Rattle.cfb_fat.proofs.Places.{passed_attempts}
 use Rattle.cfb_fat.proofs.Packed.{behind_one, packed_more}
 use Rattle.cfb_fat.proofs.Taken.{whole_writable}
-use Rattle.cfb_runs.specs.Tables.{entries_of}
+use Rattle.cfb_fat_runs.specs.Tables.{entries_of}
 use Rattle.cfb_fat.proofs.allocator.Allocator.append.Goals as goal
 
 pub invariant_of-self-2 : goal.invariant_of-self-2
@@ -41,7 +41,7 @@ invariant_of-self-2 g c =
     let wrote = c.in_ok-write_number.ensures in
     let order = it.orderly c.requires.orderly in
     let below_fs = it.there c.requires.live in
-    let more = did.appends.count did.live in
+    let more = did.appends.count did.not_failed in
     let counted : count_of b ≡ count_of a + 1 = wrote.count ∙ more in
     let version : version_of b ≡ v = wrote.changes.version ∙ did.appends.version in
     let index = c.len-index.result in
@@ -53,7 +53,7 @@ invariant_of-self-2 g c =
     let holder = get_or_read fs _ _ below c.index-holder.ensures 0 in
     let fat : (entries_of it.fat) ++ end_of_chain ∷ [] ≡ (entries_of c.push_reserved.new.self) = sym c.push_reserved.ensures.entries in
     let size : length (entries_of c.push_reserved.new.self) ≡ length (entries_of it.fat) + 1 = ap length (sym fat) ∙ length-append (entries_of it.fat) (end_of_chain ∷ []) in
-    let now : IsOrderly (version_of b) (count_of b) (entries_of c.push_reserved.new.self) fs ds = record {
+    let now : AreTablesConsistent (version_of b) (count_of b) (entries_of c.push_reserved.new.self) fs ds = record {
       once = order.once;
       covered = omega (arith, size, order.covered, counted);
       some = omega (arith, counted);
@@ -66,7 +66,7 @@ invariant_of-self-2 g c =
           let was = subst IsTrue did.appends.honest mid in
           let written = wrote.changes.bytes live mid ∙ ap (λ u. overwritten (bytes_of m) (sector_start u c.index-holder.result.now + 4 * (index % (c.sector_len-each.result / 4))) (to_le_bytes w32 end_of_chain)) did.appends.version in
           sym fat ∙ entry_added v (bytes_of a) (bytes_of m) (bytes_of b) fs ds (entries_of it.fat) (count_of a) index end_of_chain _ _ each holder written order.once
-          (λ k inside. did.appends.before did.live was (sector_start v (slice_index fs k)) (sector_len v) (whole_before v (slice_index fs k) (count_of a) (below_fs k inside)) tt)
+          (λ k inside. did.appends.before did.not_failed was (sector_start v (slice_index fs k)) (sector_len v) (whole_before v (slice_index fs k) (count_of a) (below_fs k inside)) tt)
           at fits (omega arith) (it.same c.requires.live was)
           ∙ ap (λ n. take n (fat_in v (bytes_of b) fs)) (sym counted) ∙ ap (λ u. take (count_of b) (fat_in u (bytes_of b) fs)) (sym version);
       there = λ live k inside. let less = below_fs k inside in omega (arith, less, counted);
@@ -83,12 +83,12 @@ invariant_of-self-2 g c =
           let was = subst IsTrue did.appends.honest mid in
           let had = (it.listed c.requires.live was).0 c.requires.orderly in
           let old_count : count_of a ≡ sectors_in v (length (bytes_of a)) = a.counted c.requires.live was in
-          let mid_count : count_of m ≡ sectors_in v (length (bytes_of m)) = m.counted did.live mid ∙ ap (λ u. sectors_in u (length (bytes_of m))) did.appends.version in
+          let mid_count : count_of m ≡ sectors_in v (length (bytes_of m)) = m.counted did.not_failed mid ∙ ap (λ u. sectors_in u (length (bytes_of m))) did.appends.version in
           let kept = listed_before_end v (bytes_of a) (bytes_of m) ds fs (count_of a) (header_whole v (bytes_of a) (count_of a) old_count order.some) (header_whole v (bytes_of m) (count_of m) mid_count (omega (arith, more)))
-          (omega (arith, old_count, mid_count, more)) order.there (λ p n fits. did.appends.before did.live was p n fits tt) in
+          (omega (arith, old_count, mid_count, more)) order.there (λ p n fits. did.appends.before did.not_failed was p n fits tt) in
           let aside = entry_aside (version_of m) ds fs (to_le_bytes w32 end_of_chain) index c.index-holder.result.now (c.sector_len-each.result / 4) refl (each ∙ ap per (sym did.appends.version)) below holder order.once in
           let both = listed_still (version_of m) (version_of b) (bytes_of m) (bytes_of b) (to_le_bytes w32 end_of_chain) ds fs _ (count_of m) (count_of b) wrote.changes.version wrote.count (wrote.changes.bytes live mid)
-          (m.counted did.live mid) (b.counted live honest) (omega (arith, more)) aside.0 aside.1 in
+          (m.counted did.not_failed mid) (b.counted live honest) (omega (arith, more)) aside.0 aside.1 in
           ((λ holds. (now, ∥∥₁_map had.1 (λ listed. both.0 (subst (λ u. Lists u (bytes_of m) ds fs) (sym did.appends.version) (kept listed))))), λ has. refl);
     }
 
@@ -104,7 +104,7 @@ returns-clause-occupies g c = record {
       let did = c.in_ok-sector_id.ensures in
       let wrote = c.in_ok-write_number.ensures in
       let order = it.orderly c.requires.orderly in
-      let more = did.appends.count did.live in
+      let more = did.appends.count did.not_failed in
       let index = c.len-index.result in
       let at : index ≡ count_of a = omega (arith, c.len-index.ensures.value, order.covered) in
       let each : c.sector_len-each.result / 4 ≡ per v = ap (λ n. n / 4) c.sector_len-each.ensures in
@@ -122,7 +122,7 @@ returns-clause-occupies g c = record {
         tables = λ live p n fits beside. beside;
         still = λ live n. ((λ none. none), (λ none. none));
         longer = λ live honest.
-            let first = did.appends.longer did.live honest in
+            let first = did.appends.longer did.not_failed honest in
             let second = longer_over (bytes_of m) (bytes_of c.write_number.new.sectors) (to_le_bytes w32 end_of_chain) _ (wrote.changes.bytes live (subst IsTrue (sym did.appends.honest) honest)) in
             omega (arith, first, second);
         lean = λ live content lean.
@@ -132,31 +132,31 @@ returns-clause-occupies g c = record {
         told = λ live honest. holds_then (ds ++ fs) (ds ++ fs) refl (λ told.
             let mid = subst IsTrue (sym did.appends.honest) honest in
             let whole = header_whole v (bytes_of a) (count_of a) (a.counted c.requires.live honest) order.some in
-            let first = did.appends.longer did.live honest in
+            let first = did.appends.longer did.not_failed honest in
             let in_mid : 512 ≤ length (bytes_of m) = omega (arith, whole, first) in
             let far = behind_header v (count_of a) in
             told_in (version_of m) (bytes_of m) (bytes_of c.write_number.new.sectors) (to_le_bytes w32 end_of_chain) ds fs _ _ (wrote.changes.bytes live mid) in_mid
-            (told_kept (bytes_of a) (bytes_of m) ds fs whole in_mid (did.appends.before did.live honest 44 4 (omega (arith, far)) tt) (did.appends.before did.live honest 72 4 (omega (arith, far)) tt) told));
+            (told_kept (bytes_of a) (bytes_of m) ds fs whole in_mid (did.appends.before did.not_failed honest 44 4 (omega (arith, far)) tt) (did.appends.before did.not_failed honest 72 4 (omega (arith, far)) tt) told));
         ends = λ live honest orderly ends.
             let mid = subst IsTrue (sym did.appends.honest) honest in
             let b = c.write_number.new.sectors in
             let version = did.appends.version in
             let had = ((it.listed c.requires.live honest).0 orderly).1 in
             let in_old = header_whole v (bytes_of a) (count_of a) (a.counted c.requires.live honest) order.some in
-            let first = did.appends.longer did.live honest in
-            let mid_count : count_of m ≡ sectors_in v (length (bytes_of m)) = m.counted did.live mid ∙ ap (λ u. sectors_in u (length (bytes_of m))) version in
+            let first = did.appends.longer did.not_failed honest in
+            let mid_count : count_of m ≡ sectors_in v (length (bytes_of m)) = m.counted did.not_failed mid ∙ ap (λ u. sectors_in u (length (bytes_of m))) version in
             let written = wrote.changes.bytes live mid ∙ ap (λ u. overwritten (bytes_of m) (sector_start u c.index-holder.result.now + 4 * (index % (c.sector_len-each.result / 4))) (to_le_bytes w32 end_of_chain)) version in
             let kept : (p n : ℕ) → p + n ≤ sector_start v (count_of a) → IsBeside v fs p n → filled_part (bytes_of b) p n ≡ filled_part (bytes_of a) p n = λ p n fits apart.
-            others_stay v (bytes_of m) (bytes_of b) fs index end_of_chain c.index-holder.result.now (c.sector_len-each.result / 4) each holder below written p n apart ∙ did.appends.before did.live honest p n fits tt in
+            others_stay v (bytes_of m) (bytes_of b) fs index end_of_chain c.index-holder.result.now (c.sector_len-each.result / 4) each holder below written p n apart ∙ did.appends.before did.not_failed honest p n fits tt in
             ends_in_front v (version_of b) (bytes_of a) (bytes_of b) ds fs (count_of a) (wrote.changes.version ∙ version) in_old
             (let second = longer_over (bytes_of m) (bytes_of b) (to_le_bytes w32 end_of_chain) _ (wrote.changes.bytes live mid) in omega (arith, first, second)) order.once order.there kept had
             (whole_over v (bytes_of m) (bytes_of b) (to_le_bytes w32 end_of_chain) (count_of m) _ mid_count (omega (arith, more)) written
-            (entry_inside v fs index _ _ (count_of m) each holder below (below_more (count_of a) (count_of m) fs (omega (arith, more)) (it.there c.requires.live))) (did.appends.whole did.live honest)) ends;
+            (entry_inside v fs index _ _ (count_of m) each holder below (below_more (count_of a) (count_of m) fs (omega (arith, more)) (it.there c.requires.live))) (did.appends.whole did.not_failed honest)) ends;
         beside = λ live honest p n fits beside words taken.
             let mid = subst IsTrue (sym did.appends.honest) honest in
             others_stay (version_of m) (bytes_of m) (bytes_of c.write_number.new.sectors) fs index end_of_chain c.index-holder.result.now (c.sector_len-each.result / 4) (each ∙ ap per (sym did.appends.version)) holder below (wrote.changes.bytes live mid) p n
             (subst (λ u. IsBeside u fs p n) (sym did.appends.version) (beside_second v ds fs p n beside))
-            ∙ did.appends.before did.live honest p n fits tt;
+            ∙ did.appends.before did.not_failed honest p n fits tt;
       };
   fresh = record {
     filled = λ honest.
@@ -177,18 +177,18 @@ returns-clause-occupies g c = record {
         let mid = subst IsTrue (sym did.appends.honest) honest in
         let aside = apart v fs (count_of a) (none_behind (count_of a) fs (it.there c.requires.live)) in
         ap (λ n. sector v (bytes_of c.write_number.new.sectors) n) did.number
-        ∙ others_stay (version_of m) (bytes_of m) (bytes_of c.write_number.new.sectors) fs index end_of_chain c.index-holder.result.now (c.sector_len-each.result / 4) (each ∙ ap per (sym did.appends.version)) holder below (wrote.changes.bytes wrote.live mid)
+        ∙ others_stay (version_of m) (bytes_of m) (bytes_of c.write_number.new.sectors) fs index end_of_chain c.index-holder.result.now (c.sector_len-each.result / 4) (each ∙ ap per (sym did.appends.version)) holder below (wrote.changes.bytes wrote.not_failed mid)
         (sector_start v (count_of a)) (sector_len v) (subst (λ u. IsBeside u fs (sector_start v (count_of a)) (sector_len v)) (sym did.appends.version) aside)
-        ∙ did.content did.live honest;
+        ∙ did.content did.not_failed honest;
     writable =
         let it = c.args.self.now in
         let did = c.in_ok-sector_id.ensures in
         let wrote = c.in_ok-write_number.ensures in
         let order = it.orderly c.requires.orderly in
-        let more = did.appends.count did.live in
+        let more = did.appends.count did.not_failed in
         whole_writable _ (version_of it.sectors) c.in_ok-sector_id.sector_id (wrote.changes.version ∙ did.appends.version) (omega (arith, wrote.count, more, did.number))
-        (subst (IsNoneOf it.difat_sectors.items) (sym did.number) (none_behind (count_of it.sectors) it.difat_sectors.items order.there))
-        (subst (IsNoneOf it.fat_sectors.items) (sym did.number) (none_behind (count_of it.sectors) it.fat_sectors.items (it.there c.requires.live)));
+        (subst (IsNotIn it.difat_sectors.items) (sym did.number) (none_behind (count_of it.sectors) it.difat_sectors.items order.there))
+        (subst (IsNotIn it.fat_sectors.items) (sym did.number) (none_behind (count_of it.sectors) it.fat_sectors.items (it.there c.requires.live)));
   };
   whole = λ honest.
       let it = c.args.self.now in
@@ -196,8 +196,8 @@ returns-clause-occupies g c = record {
       let b = bytes_of c.write_number.new.sectors in
       let did = c.in_ok-sector_id.ensures in
       let wrote = c.in_ok-write_number.ensures in
-      let first = did.whole did.live honest in
-      let second = longer_over (bytes_of c.append_sector.new.sectors) b (to_le_bytes w32 end_of_chain) _ (wrote.changes.bytes wrote.live (subst IsTrue (sym did.appends.honest) honest)) in
+      let first = did.whole did.not_failed honest in
+      let second = longer_over (bytes_of c.append_sector.new.sectors) b (to_le_bytes w32 end_of_chain) _ (wrote.changes.bytes wrote.not_failed (subst IsTrue (sym did.appends.honest) honest)) in
       let all : sector_start v (count_of it.sectors) + sector_len v ≤ length b = omega (arith, first, second) in
       (subst (λ u. sector_start u c.in_ok-sector_id.sector_id + sector_len u ≤ length b) (sym (wrote.changes.version ∙ did.appends.version)) (subst (λ n. sector_start v n + sector_len v ≤ length b) (sym did.number) all), tt);
 }
@@ -209,13 +209,13 @@ returns-clause-ends g c = record {
   tables = (refl, refl);
 }
 
-pub returns-in_err-write_number-clause-attempts : goal.returns-in_err-write_number-clause-attempts
-returns-in_err-write_number-clause-attempts g c =
+pub returns-in_err-write_number-clause-error_contract : goal.returns-in_err-write_number-clause-error_contract
+returns-in_err-write_number-clause-error_contract g c =
     let it = c.args.self.now in
     let did = c.in_ok-sector_id.ensures in
     let wrote = c.in_err-write_number.ensures in
     passed_attempts c.from_residual-in_err-write_number.result c.in_err-write_number.field-0.0 it.sectors c.append_sector.new.sectors c.write_number.new.sectors c.from_residual-in_err-write_number.ensures.1
-    did.appends.continues (did.live ∙ sym c.requires.live) wrote.err wrote.cause wrote.fault
+    did.appends.continues (did.not_failed ∙ sym c.requires.live) wrote.after_error wrote.cause wrote.errors
 
 pub index-holder-requires : goal.index-holder-requires
 index-holder-requires g c =
@@ -235,7 +235,7 @@ write_number-requires-clause-there g c =
     let below = subst (λ e. c.len-index.result / e < n) (sym each) (split v n c.len-index.result (omega (arith, c.len-index.ensures.value, c.requires.place.room))).0 in
     let holder = get_or_read it.fat_sectors.items _ _ below c.index-holder.ensures 0 in
     let did = c.in_ok-sector_id.ensures in
-    omega (arith, holder, it.there c.requires.live (c.len-index.result / (c.sector_len-each.result / 4)) below, did.appends.count did.live)
+    omega (arith, holder, it.there c.requires.live (c.len-index.result / (c.sector_len-each.result / 4)) below, did.appends.count did.not_failed)
 
 pub write_number-requires-clause-inside : goal.write_number-requires-clause-inside
 write_number-requires-clause-inside g c =

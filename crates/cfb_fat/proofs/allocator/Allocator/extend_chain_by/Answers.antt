@@ -4,16 +4,16 @@ use Rattle.cfb_sectors.specs.Copies.{copies}
 use Rattle.cfb_sectors.specs.Initial.{initial}
 use Rattle.cfb_sectors.specs.Sectors.{joined}
 use Rattle.cfb_sectors.proofs.OneChain.{chain_unique}
-use Rattle.cfb_chains.specs.Changes.{AreAmong}
-use Rattle.cfb_chains.specs.Grown.{AreWritable}
+use Rattle.cfb_chains.specs.Changes.{AreSubsetOf}
+use Rattle.cfb_chains.specs.Grown.{AreSectorsWritable}
 use Rattle.cfb_chains.specs.Positions.{sectors_for}
 use Rattle.cfb_chains.proofs.Extending.{linked_from, longer_from, whole_sectors}
 use Rattle.cfb_fat.specs.Changing.{MayWrite}
 use Rattle.cfb_fat.specs.Tables.{bytes_of}
 use Rattle.cfb_fat.specs.Keeping.{takes_rest}
-use Rattle.cfb_fat.specs.Resting.{all_rest_refl}
+use Rattle.cfb_fat.specs.OnlyReads.{all_rest_refl}
 use Rattle.cfb_fat.proofs.GrowthSteps.{on_err, on_ok_all}
-use Rattle.cfb_runs.specs.Tables.{entries_of}
+use Rattle.cfb_fat_runs.specs.Tables.{entries_of}
 use Rattle.cfb_fat.proofs.allocator.Allocator.extend_chain_by.Goals as goal
 
 pub returns-in_err-links-clause-some : goal.returns-in_err-links-clause-some
@@ -22,8 +22,8 @@ returns-in_err-links-clause-some g c = on_err c.from_residual.result _ ([], [], 
 pub returns-then-old-eq0-clause-some : goal.returns-then-old-eq0-clause-some
 returns-then-old-eq0-clause-some g c = ([], [], takes_rest [] c.args.self.now c.args.self.now (all_rest_refl c.args.self.now))
 
-pub returns-then-old-eq0-clause-refused : goal.returns-then-old-eq0-clause-refused
-returns-then-old-eq0-clause-refused g c = λ refused. (
+pub returns-then-old-eq0-clause-refused_only_if : goal.returns-then-old-eq0-clause-refused_only_if
+returns-then-old-eq0-clause-refused_only_if g c = λ refused. (
   λ orderly ids last chain.
       let ours = c.in_ok-links.links.sector_ids.items in
       let one = chain_unique (entries_of c.args.self.now.fat) c.args.start ours (ids ++ last ∷ []) c.in_ok-links.ensures.chain chain in
@@ -37,11 +37,11 @@ returns-in_default-clause-some g c = ([], [], takes_rest [] c.args.self.now c.ar
 pub returns-in_default-checked_mul-clause-some : goal.returns-in_default-checked_mul-clause-some
 returns-in_default-checked_mul-clause-some g c = ([], [], takes_rest [] c.args.self.now c.args.self.now (all_rest_refl c.args.self.now))
 
-pub returns-clause-refused : goal.returns-clause-refused
-returns-clause-refused g c = λ refused.
+pub returns-clause-refused_only_if : goal.returns-clause-refused_only_if
+returns-clause-refused_only_if g c = λ refused.
     let ours = c.in_ok-links.links.sector_ids.items in
     let some : 0 < length ours = omega (arith, ap length c.sector_ids-old.ensures, c.if-old-eq0.false) in
-    let did = c.lengthen_chain.ensures.refused refused in
+    let did = c.lengthen_chain.ensures.refused_only_if refused in
     (λ orderly ids last chain. did.0 orderly (linked_from (entries_of c.args.self.now.fat) c.args.start ours some c.in_ok-links.ensures.chain), did.1)
 
 pub returns-clause-extends : goal.returns-clause-extends
@@ -72,9 +72,9 @@ returns-clause-extends g c =
       longer_from (entries_of it.fat) (entries_of now.fat) c.args.start ids more all some opened.chain longer.2 (goes linked),
       added,
       longer.3,
-      subst (λ l. AreAmong l longer.1) longer.2 (longer.4 linked),
+      subst (λ l. AreSubsetOf l longer.1) longer.2 (longer.4 linked),
       λ honest writable.
-          let there = subst (λ u. AreWritable (MayWrite it) u ids) (sym opened.version) writable in
+          let there = subst (λ u. AreSectorsWritable (MayWrite it) u ids) (sym opened.version) writable in
           let told = subst (λ u. joined u (bytes_of now) all ≡ joined u (bytes_of it) ids ++ copies (length all - length ids) (initial c.args.init (sector_len u))) opened.version (filled honest (sym opened.version) linked there) in
           let fresh : length all - length ids ≡ c.args.count = omega (arith, size) in
           ap (joined v (bytes_of now)) (sym longer.2) ∙ told ∙ ap (λ n. joined v (bytes_of it) ids ++ copies n (initial c.args.init (sector_len v))) fresh,

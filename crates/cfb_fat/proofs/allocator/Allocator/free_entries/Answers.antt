@@ -1,11 +1,11 @@
 use Rattle.std.proofs.Common.{false, ◌≡◌, ◌*◌, ◌<◌, ◌≤◌, length, refl, sym, subst, arith, IsTrue}
 use Rattle.std.specs.Prelude.{slice_index}
 use mathlib.Core.Logic.{∥∥₁_map}
-use Rattle.cfb_runs.specs.Tables.{entries_of}
+use Rattle.cfb_fat_runs.specs.Tables.{entries_of}
 use Rattle.cfb_sectors.specs.Held.{bytes_of, has_failed_here, IsHonest}
 use Rattle.cfb_sectors.specs.Sectors.{free}
-use Rattle.cfb_chains.specs.Changes.{AreOnce, HaveEntry}
-use Rattle.cfb_fat.specs.Changing.{fat_here, WritesEntries}
+use Rattle.cfb_chains.specs.Changes.{AreDistinct, HaveEntry}
+use Rattle.cfb_fat.specs.Changing.{fat_here, WritesFatEntries}
 use Rattle.cfb_fat.proofs.EndsKept.{ends_beside}
 use Rattle.cfb_fat.proofs.Entering.{once_behind, order_stays}
 use Rattle.cfb_fat.proofs.EntryWrites.{packed_freed, same_freed}
@@ -20,9 +20,9 @@ invariant_of-self-2 g c =
     let ds = it.difat_sectors.items in
     let ids = c.args.sector_ids.now in
     let new = c.write_entries.new.sectors in
-    let did : WritesEntries {g = g.F.ReadMedium} ids fs it.sectors new = subst (λ l. WritesEntries {g = g.F.ReadMedium} ids l it.sectors new) c.deref.ensures.value c.in_ok-write_entries.ensures.writes in
-    let entries : has_failed_here {g = g.F.ReadMedium} new ≡ false → IsHonest {g = g.F.ReadMedium} it.sectors → AreOnce fs → HaveEntry free (fat_here {g = g.F.ReadMedium} fs new) ids =
-    subst (λ l. has_failed_here {g = g.F.ReadMedium} new ≡ false → IsHonest {g = g.F.ReadMedium} it.sectors → AreOnce l → HaveEntry free (fat_here {g = g.F.ReadMedium} l new) ids) c.deref.ensures.value c.in_ok-write_entries.ensures.entries in
+    let did : WritesFatEntries {g = g.F.ReadMedium} ids fs it.sectors new = subst (λ l. WritesFatEntries {g = g.F.ReadMedium} ids l it.sectors new) c.deref.ensures.value c.in_ok-write_entries.ensures.writes in
+    let entries : has_failed_here {g = g.F.ReadMedium} new ≡ false → IsHonest {g = g.F.ReadMedium} it.sectors → AreDistinct fs → HaveEntry free (fat_here {g = g.F.ReadMedium} fs new) ids =
+    subst (λ l. has_failed_here {g = g.F.ReadMedium} new ≡ false → IsHonest {g = g.F.ReadMedium} it.sectors → AreDistinct l → HaveEntry free (fat_here {g = g.F.ReadMedium} l new) ids) c.deref.ensures.value c.in_ok-write_entries.ensures.entries in
     let memory = c.free_all.ensures.frees in
     let now = entries_of c.free_all.new.self in
     let order = it.orderly c.requires.orderly in
@@ -54,7 +54,7 @@ returns-clause-changes g c =
     let fs = it.fat_sectors.items in
     let ids = c.args.sector_ids.now in
     let new = c.write_entries.new.sectors in
-    let did : WritesEntries {g = g.F.ReadMedium} ids fs it.sectors new = subst (λ l. WritesEntries {g = g.F.ReadMedium} ids l it.sectors new) c.deref.ensures.value c.in_ok-write_entries.ensures.writes in
+    let did : WritesFatEntries {g = g.F.ReadMedium} ids fs it.sectors new = subst (λ l. WritesFatEntries {g = g.F.ReadMedium} ids l it.sectors new) c.deref.ensures.value c.in_ok-write_entries.ensures.writes in
     let memory = c.free_all.ensures.frees in
     record {
       honest = did.honest;

@@ -5,9 +5,9 @@ use Rattle.cfb_medium.specs.Versions.{sector_len}
 use Rattle.cfb_sectors.specs.Held.{bytes_of, count_of, version_of}
 use Rattle.cfb_sectors.specs.Sectors.{fat_in, free, sector_start}
 use Rattle.cfb_fat.specs.Growing.{Appends, IsBesideDifat}
-use Rattle.cfb_fat.specs.Listed.{Ends, Lists}
-use Rattle.cfb_chains.specs.Changes.{IsBeside, IsNoneOf}
-use Rattle.cfb_fat.specs.Orderly.{AreBelow, IsOrderly}
+use Rattle.cfb_fat.specs.Listed.{EndsAsStrict, Lists}
+use Rattle.cfb_chains.specs.Changes.{IsBeside, IsNotIn}
+use Rattle.cfb_fat.specs.Orderly.{AreBelow, AreTablesConsistent}
 use Rattle.cfb_fat.proofs.FatEntries.{per}
 use Rattle.cfb_fat.proofs.EndsKept.{both_in, ends_at}
 use Rattle.cfb_fat.proofs.ListsNow.{lists_now}
@@ -23,7 +23,7 @@ use Rattle.cfb_fat.proofs.Rising.{read_more}
 use Rattle.cfb_fat.proofs.Packed.{behind_two, not_none, packed_more}
 use Rattle.cfb_fat.proofs.Places.{passed_attempts}
 use Rattle.cfb_fat.proofs.allocator.Allocator.grow_both.Given.{Over}
-use Rattle.cfb_runs.specs.Tables.{entries_of}
+use Rattle.cfb_fat_runs.specs.Tables.{entries_of}
 use Rattle.cfb_fat.proofs.allocator.Allocator.grow_both.Goals as goal
 
 pub add_fat_sector-requires-clause-fewer : goal.add_fat_sector-requires-clause-fewer
@@ -34,7 +34,7 @@ add_fat_sector-requires-clause-fewer g c =
     let ds = it.difat_sectors.items in
     let few = once_few (count_of it.sectors) ds (once_front ds it.fat_sectors.items order.once) order.there in
     let size = ap length (c.deref-2.ensures.value ∙ c.push_reserved.ensures.items) ∙ length-append ds (c.in_ok-difat_sector.difat_sector ∷ []) in
-    let more = did.appends.count did.live in
+    let more = did.appends.count did.not_failed in
     omega (arith, few, size, more)
 
 pub add_fat_sector-requires-clause-there : goal.add_fat_sector-requires-clause-there
@@ -42,18 +42,18 @@ add_fat_sector-requires-clause-there g c =
     let it = c.args.self.now in
     let order = it.orderly c.requires.orderly in
     let did = c.in_ok-difat_sector.ensures in
-    let more = did.appends.count did.live in
+    let more = did.appends.count did.not_failed in
     subst (AreBelow (count_of c.add_difat_sector.new.sectors))
     (sym (c.deref-2.ensures.value ∙ c.push_reserved.ensures.items ∙ ap (λ n. it.difat_sectors.items ++ n ∷ []) did.number))
     (below_one_more (count_of it.sectors) (count_of c.add_difat_sector.new.sectors) it.difat_sectors.items (omega (arith, more)) order.there)
 
-pub returns-in_err-fat_sector-clause-attempts : goal.returns-in_err-fat_sector-clause-attempts
-returns-in_err-fat_sector-clause-attempts g c =
+pub returns-in_err-fat_sector-clause-error_contract : goal.returns-in_err-fat_sector-clause-error_contract
+returns-in_err-fat_sector-clause-error_contract g c =
     let it = c.args.self.now in
     let did = c.in_ok-difat_sector.ensures in
-    let then = c.in_err-fat_sector.ensures.attempts in
+    let then = c.in_err-fat_sector.ensures.error_contract in
     passed_attempts c.from_residual-in_err-fat_sector.result c.in_err-fat_sector.field-0.0 it.sectors c.add_difat_sector.new.sectors c.add_fat_sector.new.sectors c.from_residual-in_err-fat_sector.ensures.1
-    did.appends.continues (did.live ∙ sym c.requires.live) then.err then.cause then.fault
+    did.appends.continues (did.not_failed ∙ sym c.requires.live) then.err then.cause then.fault
 
 -- what was appended
 pub record Both (g : Over) (c : goal.After-push_reserved-4 g) : Type 0 where
@@ -77,7 +77,7 @@ both g c =
     let order = it.orderly c.requires.orderly in
     let is_ds : ds ++ count_of a ∷ [] ≡ c.push_reserved.new.self.items = sym (c.push_reserved.ensures.items ∙ ap (λ n. ds ++ n ∷ []) did.number) in
     let first = subst (λ l. Appends (IsBesideDifat a l) a m) c.deref.ensures.value did.appends in
-    let more = first.count did.live in
+    let more = first.count did.not_failed in
     let below_fs = it.there c.requires.live in
     record {
       is_ds = is_ds;
@@ -93,7 +93,7 @@ both g c =
         full = subst (λ u. length (entries_of it.fat) ≡ length fs * per u) (sym first.version) c.requires.full;
         before = λ honest.
             let was = subst IsTrue first.honest honest in
-            let kept = fat_sectors_stay v (bytes_of a) (bytes_of m) ds fs (count_of a) order.once below_fs (λ p n fits aside. first.before did.live was p n fits aside) in
+            let kept = fat_sectors_stay v (bytes_of a) (bytes_of m) ds fs (count_of a) order.once below_fs (λ p n fits aside. first.before did.not_failed was p n fits aside) in
             (count_of a, it.same c.requires.live was ∙ ap (take (count_of a)) (sym (fat_same v (bytes_of a) (bytes_of m) fs kept)) ∙ ap (λ u. take (count_of a) (fat_in u (bytes_of m) fs)) (sym first.version), order.covered);
         sum = omega (arith, more, order.covered);
         few = omega arith;
@@ -117,37 +117,37 @@ invariant_of-self-2 g c =
     let fs = it.fat_sectors.items ++ count_of m ∷ [] in
     let new_ds = c.push_reserved.new.self.items in
     let new_fs = c.push_reserved-2.new.self.items in
-    let order : IsOrderly (version_of b) (count_of b) (entries_of c.push_reserved-4.new.self) new_fs new_ds =
-    subst (λ l. IsOrderly (version_of b) (count_of b) (entries_of c.push_reserved-4.new.self) new_fs l) all.is_ds (subst (λ l. IsOrderly (version_of b) (count_of b) l new_fs ds) all.is_fat
-    (subst (λ l. IsOrderly (version_of b) (count_of b) fat l ds) all.is_fs (order_grown m b (entries_of it.fat) it.fat_sectors.items ds 2 h then.attempts.live))) in
+    let order : AreTablesConsistent (version_of b) (count_of b) (entries_of c.push_reserved-4.new.self) new_fs new_ds =
+    subst (λ l. AreTablesConsistent (version_of b) (count_of b) (entries_of c.push_reserved-4.new.self) new_fs l) all.is_ds (subst (λ l. AreTablesConsistent (version_of b) (count_of b) l new_fs ds) all.is_fat
+    (subst (λ l. AreTablesConsistent (version_of b) (count_of b) fat l ds) all.is_fs (order_grown m b (entries_of it.fat) it.fat_sectors.items ds 2 h then.error_contract.live))) in
     record {
       same = λ live honest. sym all.is_fat ∙ same_grown m b (entries_of it.fat) it.fat_sectors.items ds 2 h live (subst IsTrue h.appends.honest honest)
           ∙ ap (λ l. take (count_of b) (fat_in (version_of b) (bytes_of b) l)) all.is_fs;
       there = λ live. subst (λ l. (k : ℕ) → k < length l → slice_index l k < count_of b) all.is_fs (there_grown m b (entries_of it.fat) it.fat_sectors.items ds 2 h live);
       inside = λ live. omega (arith, order.covered);
       whole = subst (λ l. length l ≤ length new_fs * (sector_len (version_of b) / 4)) all.is_fat
-          (subst (λ l. length fat ≤ length l * (sector_len (version_of b) / 4)) all.is_fs (whole_grown m b (entries_of it.fat) it.fat_sectors.items ds 2 h then.attempts.live));
+          (subst (λ l. length fat ≤ length l * (sector_len (version_of b) / 4)) all.is_fs (whole_grown m b (entries_of it.fat) it.fat_sectors.items ds 2 h then.error_contract.live));
       packed = packed_more (entries_of it.fat) (free ∷ free ∷ []) (entries_of c.push_reserved-4.new.self) it.difat_sectors.items it.fat_sectors.items new_ds new_fs it.first_free (sym all.is_fat) it.packed
-          (λ n none. none_first it.difat_sectors.items (count_of a ∷ []) n (subst (λ l. IsNoneOf l n) (sym all.is_ds) none))
-          (λ n none. none_first it.fat_sectors.items (count_of m ∷ []) n (subst (λ l. IsNoneOf l n) (sym all.is_fs) none))
+          (λ n none. none_first it.difat_sectors.items (count_of a ∷ []) n (subst (λ l. IsNotIn l n) (sym all.is_ds) none))
+          (λ n none. none_first it.fat_sectors.items (count_of m ∷ []) n (subst (λ l. IsNotIn l n) (sym all.is_fs) none))
           (λ k past is no_ds no_fs.
           let covered = (it.orderly c.requires.orderly).covered in
-          let more = all.first.count did.live in
+          let more = all.first.count did.not_failed in
           ⊎_elim
-          (λ here. not_none it.difat_sectors.items (count_of a) (subst (IsNoneOf ds) (here ∙ covered) (subst (λ l. IsNoneOf l k) (sym all.is_ds) no_ds)))
-          (λ there. let at : k ≡ count_of m = omega (arith, there, covered, more) in not_none it.fat_sectors.items (count_of m) (subst (IsNoneOf fs) at (subst (λ l. IsNoneOf l k) (sym all.is_fs) no_fs)))
+          (λ here. not_none it.difat_sectors.items (count_of a) (subst (IsNotIn ds) (here ∙ covered) (subst (λ l. IsNotIn l k) (sym all.is_ds) no_ds)))
+          (λ there. let at : k ≡ count_of m = omega (arith, there, covered, more) in not_none it.fat_sectors.items (count_of m) (subst (IsNotIn fs) at (subst (λ l. IsNotIn l k) (sym all.is_fs) no_fs)))
           (behind_two (entries_of it.fat) (entries_of c.push_reserved-4.new.self) free free k (sym all.is_fat) past is));
       orderly = λ now. order;
       read_difat = subst (AreRead it.read.ids.items it.read.num_difat) all.is_ds (read_more it.read.ids.items it.difat_sectors.items it.read.num_difat (count_of a) it.read_difat (it.orderly c.requires.orderly).there);
       read_fat = subst (AreRead it.read.ids.items it.read.num_fat) all.is_fs (read_more it.read.ids.items it.fat_sectors.items it.read.num_fat (count_of m) it.read_fat h.below_fs);
-      read_alone = λ n no_ds no_fs. it.read_alone n (none_first it.difat_sectors.items (count_of a ∷ []) n (subst (λ l. IsNoneOf l n) (sym all.is_ds) no_ds))
-          (none_first it.fat_sectors.items (count_of m ∷ []) n (subst (λ l. IsNoneOf l n) (sym all.is_fs) no_fs));
+      read_alone = λ n no_ds no_fs. it.read_alone n (none_first it.difat_sectors.items (count_of a ∷ []) n (subst (λ l. IsNotIn l n) (sym all.is_ds) no_ds))
+          (none_first it.fat_sectors.items (count_of m ∷ []) n (subst (λ l. IsNotIn l n) (sym all.is_fs) no_fs));
       listed = λ live honest.
           let mid = subst IsTrue h.appends.honest honest in
           let was = subst IsTrue all.first.honest mid in
           let had = (it.listed c.requires.live was).0 c.requires.orderly in
           let named = both_in (version_of a) (version_of m) (bytes_of a) (bytes_of m) (bytes_of b) _ _ it.difat_sectors.items it.fat_sectors.items (count_of a) (count_of m) _ all.first.version c.deref.ensures.value (c.deref-2.ensures.value ∙ sym all.is_ds)
-          (did.listed did.live was) (then.listed live mid) (once_front it.difat_sectors.items it.fat_sectors.items (it.orderly c.requires.orderly).once) (once_front ds it.fat_sectors.items h.once) (omega (arith, c.len.ensures, it.fat_sectors.ok.0)) in (
+          (did.listed did.not_failed was) (then.listed live mid) (once_front it.difat_sectors.items it.fat_sectors.items (it.orderly c.requires.orderly).once) (once_front ds it.fat_sectors.items h.once) (omega (arith, c.len.ensures, it.fat_sectors.ok.0)) in (
             λ now. (
               order,
               ∥∥₁_map had.1 (λ listed.
@@ -172,7 +172,7 @@ returns-clause-grows g c =
     let is_fat : (entries_of c.push_reserved-4.new.self) ≡ (entries_of it.fat) ++ free ∷ free ∷ [] = c.push_reserved-4.ensures.entries ∙ ap (λ l. l ++ free ∷ []) c.push_reserved-3.ensures.entries ∙ append_assoc (entries_of it.fat) (free ∷ []) (free ∷ []) in
     let first = subst (λ l. Appends (IsBesideDifat a l) a m) c.deref.ensures.value did.appends in
     let second = subst (λ l. Appends (IsBesideDifat m l) m c.add_fat_sector.new.sectors) (c.deref-2.ensures.value ∙ sym is_ds) then.appends in
-    let more = first.count did.live in
+    let more = first.count did.not_failed in
     let later : (p : ℕ) → p ≤ sector_start v (count_of a) → p ≤ sector_start v (count_of m) = λ p fits. start_later v (count_of a) (count_of m) p (omega (arith, more)) fits in
     record {
       honest = second.honest ∙ first.honest;
@@ -187,8 +187,8 @@ returns-clause-grows g c =
           (beside_both v (ds ++ count_of a ∷ []) (fs ++ count_of m ∷ []) p n
           (beside_more v ds p n (count_of a) (count_of a) (beside_first v ds fs p n apart) fits (omega arith))
           (beside_more v fs p n (count_of m) (count_of a) (beside_second v ds fs p n apart) fits (omega (arith, more)))));
-      still = λ live n. ((λ none. none_first ds (count_of a ∷ []) n (subst (λ l. IsNoneOf l n) (sym is_ds) none)), (λ none. none_first fs (count_of m ∷ []) n (subst (λ l. IsNoneOf l n) (sym is_fs) none)));
-      longer = λ live honest. let one = first.longer did.live honest in let two = second.longer live (subst IsTrue (sym first.honest) honest) in omega (arith, one, two);
+      still = λ live n. ((λ none. none_first ds (count_of a ∷ []) n (subst (λ l. IsNotIn l n) (sym is_ds) none)), (λ none. none_first fs (count_of m ∷ []) n (subst (λ l. IsNotIn l n) (sym is_fs) none)));
+      longer = λ live honest. let one = first.longer did.not_failed honest in let two = second.longer live (subst IsTrue (sym first.honest) honest) in omega (arith, one, two);
       lean = λ live content lean.
           let old = length (entries_of it.fat) in
           lean_same v _ (old + 2) (length fs + 1) (length ds + 1) content _ _ _ _ (second.version ∙ first.version) (ap length is_fat ∙ length-append (entries_of it.fat) (free ∷ free ∷ []))
@@ -199,20 +199,20 @@ returns-clause-grows g c =
           let size = ap length is_fs in
           let long = length-append fs (count_of m ∷ []) in
           let same : c.len.result + 1 ≡ length c.push_reserved-2.new.self.items = omega (arith, size, long, c.len.ensures, it.fat_sectors.ok.0) in
-          let told = then.told live (subst IsTrue (sym first.honest) honest) in
+          let told = then.answer live (subst IsTrue (sym first.honest) honest) in
           record { difat_count = told.1 ∙ ap length c.deref-2.ensures.value; fat_count = told.0 ∙ same };
       ends = λ live honest orderly ends.
           let order = it.orderly orderly in
           let once_more = once_front (ds ++ count_of a ∷ []) fs (once_middle ds fs (count_of a) order.once (below_both (count_of a) ds fs order.there (it.there c.requires.live))) in
           let has = both_in v (version_of m) (bytes_of a) (bytes_of m) (bytes_of c.add_fat_sector.new.sectors) _ _ ds fs (count_of a) (count_of m) _ first.version c.deref.ensures.value (c.deref-2.ensures.value ∙ sym is_ds)
-          (did.listed did.live honest) (then.listed live (subst IsTrue (sym first.honest) honest)) (once_front ds fs order.once) once_more (omega (arith, c.len.ensures, it.fat_sectors.ok.0))
+          (did.listed did.not_failed honest) (then.listed live (subst IsTrue (sym first.honest) honest)) (once_front ds fs order.once) once_more (omega (arith, c.len.ensures, it.fat_sectors.ok.0))
           (lists_now v (bytes_of a) ds fs ((it.listed c.requires.live honest).0 orderly).1) in
-          subst (Ends (version_of c.add_fat_sector.new.sectors) (bytes_of c.add_fat_sector.new.sectors)) is_ds
+          subst (EndsAsStrict (version_of c.add_fat_sector.new.sectors) (bytes_of c.add_fat_sector.new.sectors)) is_ds
           (ends_at (version_of m) _ (bytes_of c.add_fat_sector.new.sectors) (ds ++ count_of a ∷ []) (fs ++ count_of m ∷ []) second.version has.0 has.1 (second.whole live (subst IsTrue (sym first.honest) honest)));
       beside = λ live honest p n fits apart words taken.
           let beside_ds = beside_more v ds p n (count_of a) (count_of a) (beside_first v ds fs p n apart) fits (omega arith) in
           second.before live (subst IsTrue (sym first.honest) honest) p n (subst (λ u. p + n ≤ sector_start u (count_of m)) (sym first.version) (later (p + n) fits)) (subst (λ u. IsBeside u (ds ++ count_of a ∷ []) p n) (sym first.version) beside_ds, words)
-          ∙ first.before did.live honest p n fits (beside_first v ds fs p n apart, words);
+          ∙ first.before did.not_failed honest p n fits (beside_first v ds fs p n apart, words);
     }
 
 pub returns-clause-spends : goal.returns-clause-spends
@@ -244,17 +244,17 @@ invariant_of-self-in-Break-branch-2 g c =
     let fs = it.fat_sectors.items in
     let did = c.in_ok-difat_sector.ensures in
     let then = c.in_err-fat_sector.ensures in
-    let failed = then.attempts.err in
+    let failed = then.error_contract.err in
     let is_ds : ds ++ count_of it.sectors ∷ [] ≡ c.push_reserved.new.self.items = sym (c.push_reserved.ensures.items ∙ ap (λ n. ds ++ n ∷ []) did.number) in
     record {
       same = λ live honest. absurd (cc);
       there = λ live k inside. absurd (cc);
       inside = λ live. absurd (cc);
       whole = subst (λ v. length (entries_of it.fat) ≤ length fs * (sector_len v / 4)) (sym (then.appends.version ∙ did.appends.version)) it.whole;
-      packed = λ k below is no_ds no_fs. it.packed k below is (none_first ds (count_of it.sectors ∷ []) k (subst (λ l. IsNoneOf l k) (sym is_ds) no_ds)) no_fs;
+      packed = λ k below is no_ds no_fs. it.packed k below is (none_first ds (count_of it.sectors ∷ []) k (subst (λ l. IsNotIn l k) (sym is_ds) no_ds)) no_fs;
       orderly = λ now. absurd (cc);
       read_difat = subst (AreRead it.read.ids.items it.read.num_difat) is_ds (read_more it.read.ids.items ds it.read.num_difat (count_of it.sectors) it.read_difat (it.orderly c.requires.orderly).there);
       read_fat = it.read_fat;
-      read_alone = λ n no_ds no_fs. it.read_alone n (none_first ds (count_of it.sectors ∷ []) n (subst (λ l. IsNoneOf l n) (sym is_ds) no_ds)) no_fs;
+      read_alone = λ n no_ds no_fs. it.read_alone n (none_first ds (count_of it.sectors ∷ []) n (subst (λ l. IsNotIn l n) (sym is_ds) no_ds)) no_fs;
       listed = λ live honest. absurd (cc);
     }

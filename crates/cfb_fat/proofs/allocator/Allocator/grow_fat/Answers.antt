@@ -6,8 +6,8 @@ use Rattle.cfb_sectors.specs.Held.{bytes_of, count_of, version_of}
 use Rattle.cfb_sectors.specs.Sectors.{fat_in, free}
 use Rattle.cfb_fat.specs.Growing.{Appends, IsBesideDifat}
 use Rattle.cfb_fat.specs.Listed.{Lists}
-use Rattle.cfb_chains.specs.Changes.{IsBeside, IsNoneOf}
-use Rattle.cfb_fat.specs.Orderly.{IsOrderly}
+use Rattle.cfb_chains.specs.Changes.{IsBeside, IsNotIn}
+use Rattle.cfb_fat.specs.Orderly.{AreTablesConsistent}
 use Rattle.cfb_fat.proofs.EndsKept.{ends_listed, named_in}
 use Rattle.cfb_fat.proofs.ListsNow.{lists_now}
 use Rattle.cfb_fat.proofs.Grown.{order_grown, same_grown, there_grown, whole_grown, Lengthens}
@@ -20,7 +20,7 @@ use Rattle.cfb_fat.proofs.Rising.{read_more}
 use Rattle.cfb_fat.proofs.Packed.{behind_one, not_none, packed_more}
 use Rattle.cfb_chains.proofs.Beside.{beside_first, none_first}
 use Rattle.cfb_fat.proofs.allocator.Allocator.grow_fat.Given.{Over}
-use Rattle.cfb_runs.specs.Tables.{entries_of}
+use Rattle.cfb_fat_runs.specs.Tables.{entries_of}
 use Rattle.cfb_fat.proofs.allocator.Allocator.grow_fat.Goals as goal
 
 lengthens : (g : Over) (c : goal.After-push_reserved-2 g) → Lengthens {g = g.F.ReadMedium} c.args.self.now.sectors c.add_fat_sector.new.sectors (entries_of c.args.self.now.fat) c.args.self.now.fat_sectors.items c.args.self.now.difat_sectors.items 1
@@ -60,25 +60,25 @@ invariant_of-self-2 g c =
     let ds = it.difat_sectors.items in
     let has_fs : fs ≡ c.push_reserved.new.self.items = is_fs g c in
     let has_fat : fat ≡ (entries_of c.push_reserved-2.new.self) = is_fat g c in
-    let order : IsOrderly (version_of b) (count_of b) (entries_of c.push_reserved-2.new.self) c.push_reserved.new.self.items ds =
-    subst (λ l. IsOrderly (version_of b) (count_of b) l c.push_reserved.new.self.items ds) has_fat
-    (subst (λ l. IsOrderly (version_of b) (count_of b) fat l ds) has_fs (order_grown a b (entries_of it.fat) it.fat_sectors.items ds 1 h did.attempts.live)) in
+    let order : AreTablesConsistent (version_of b) (count_of b) (entries_of c.push_reserved-2.new.self) c.push_reserved.new.self.items ds =
+    subst (λ l. AreTablesConsistent (version_of b) (count_of b) l c.push_reserved.new.self.items ds) has_fat
+    (subst (λ l. AreTablesConsistent (version_of b) (count_of b) fat l ds) has_fs (order_grown a b (entries_of it.fat) it.fat_sectors.items ds 1 h did.error_contract.live)) in
     record {
       same = λ live honest. sym has_fat ∙ same_grown a b (entries_of it.fat) it.fat_sectors.items ds 1 h live (subst IsTrue did.appends.honest honest)
           ∙ ap (λ l. take (count_of b) (fat_in (version_of b) (bytes_of b) l)) has_fs;
       there = λ live. subst (λ l. (k : ℕ) → k < length l → slice_index l k < count_of b) has_fs (there_grown a b (entries_of it.fat) it.fat_sectors.items ds 1 h live);
       inside = λ live. omega (arith, order.covered);
       whole = subst (λ l. length l ≤ length c.push_reserved.new.self.items * (sector_len (version_of b) / 4)) has_fat
-          (subst (λ l. length fat ≤ length l * (sector_len (version_of b) / 4)) has_fs (whole_grown a b (entries_of it.fat) it.fat_sectors.items ds 1 h did.attempts.live));
+          (subst (λ l. length fat ≤ length l * (sector_len (version_of b) / 4)) has_fs (whole_grown a b (entries_of it.fat) it.fat_sectors.items ds 1 h did.error_contract.live));
       packed = packed_more (entries_of it.fat) (free ∷ []) (entries_of c.push_reserved-2.new.self) ds it.fat_sectors.items ds c.push_reserved.new.self.items it.first_free (sym has_fat) it.packed (λ n none. none)
-          (λ n none. none_first it.fat_sectors.items (count_of a ∷ []) n (subst (λ l. IsNoneOf l n) (sym has_fs) none))
+          (λ n none. none_first it.fat_sectors.items (count_of a ∷ []) n (subst (λ l. IsNotIn l n) (sym has_fs) none))
           (λ k past is no_ds no_fs.
           let here = (behind_one (entries_of it.fat) (entries_of c.push_reserved-2.new.self) free k (sym has_fat) past is).0 ∙ (it.orderly c.requires.orderly).covered in
-          not_none it.fat_sectors.items (count_of a) (subst (IsNoneOf (it.fat_sectors.items ++ count_of a ∷ [])) here (subst (λ l. IsNoneOf l k) (sym has_fs) no_fs)));
+          not_none it.fat_sectors.items (count_of a) (subst (IsNotIn (it.fat_sectors.items ++ count_of a ∷ [])) here (subst (λ l. IsNotIn l k) (sym has_fs) no_fs)));
       orderly = λ now. order;
       read_difat = it.read_difat;
       read_fat = subst (AreRead it.read.ids.items it.read.num_fat) has_fs (read_more it.read.ids.items it.fat_sectors.items it.read.num_fat (count_of a) it.read_fat (it.there c.requires.live));
-      read_alone = λ n no_ds no_fs. it.read_alone n no_ds (none_first it.fat_sectors.items (count_of a ∷ []) n (subst (λ l. IsNoneOf l n) (sym has_fs) no_fs));
+      read_alone = λ n no_ds no_fs. it.read_alone n no_ds (none_first it.fat_sectors.items (count_of a ∷ []) n (subst (λ l. IsNotIn l n) (sym has_fs) no_fs));
       listed = λ live honest.
           let was = subst IsTrue did.appends.honest honest in
           let had = (it.listed c.requires.live was).0 c.requires.orderly in (
@@ -108,7 +108,7 @@ returns-clause-grows g c =
       count = λ live. let more = did.appends.count live in omega (arith, more);
       orderly = λ live. sym c.requires.orderly;
       fat = λ live. stays_in_front [] (entries_of it.fat) (free ∷ []) (entries_of c.push_reserved-2.new.self) c.push_reserved-2.ensures.entries;
-      still = λ live n. ((λ none. none), (λ none. none_first fs (count_of it.sectors ∷ []) n (subst (λ l. IsNoneOf l n) (sym has_fs) none)));
+      still = λ live n. ((λ none. none), (λ none. none_first fs (count_of it.sectors ∷ []) n (subst (λ l. IsNotIn l n) (sym has_fs) none)));
       longer = appends.longer;
       lean = λ live content lean.
           let old = length (entries_of it.fat) in
@@ -119,7 +119,7 @@ returns-clause-grows g c =
           let size = ap length has_fs in
           let long = length-append fs (count_of it.sectors ∷ []) in
           let same : c.len.result + 1 ≡ length c.push_reserved.new.self.items = omega (arith, size, long, c.len.ensures, it.fat_sectors.ok.0) in
-          let told = did.told live honest in
+          let told = did.answer live honest in
           record { difat_count = told.1 ∙ ap length c.deref.ensures.value; fat_count = told.0 ∙ same };
       ends = λ live honest orderly.
           let had = lists_now v (bytes_of it.sectors) ds fs ((it.listed c.requires.live honest).0 orderly).1 in

@@ -14,7 +14,7 @@ use Rattle.cfb_fat.specs.Listed.{Lists}
 use Rattle.cfb_fat.proofs.ListedStays.{listed_still}
 use Rattle.cfb_fat.proofs.Entering.{order_stays, still_same}
 use Rattle.cfb_fat.proofs.FatEntries.{per}
-use Rattle.cfb_runs.specs.Tables.{entries_of}
+use Rattle.cfb_fat_runs.specs.Tables.{entries_of}
 use Rattle.cfb_fat.proofs.allocator.Allocator.init_beside.Goals as goal
 
 pub invariant_of-self : goal.invariant_of-self

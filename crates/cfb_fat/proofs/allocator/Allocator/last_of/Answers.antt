@@ -5,7 +5,7 @@ use Rattle.cfb_sectors.specs.Sectors.{Chain as IsChain}
 use Rattle.cfb_sectors.proofs.Causes.{err_same}
 use Rattle.cfb_sectors.proofs.OneChain.{chain_unique}
 use Rattle.cfb_chains.proofs.Extending.{opened}
-use Rattle.cfb_runs.specs.Tables.{entries_of}
+use Rattle.cfb_fat_runs.specs.Tables.{entries_of}
 use Rattle.cfb_fat.proofs.allocator.Allocator.last_of.Goals as goal
 
 -- a chain of some sectors starts in the table
@@ -19,7 +19,7 @@ returns-in_err-next-clause-none g c = λ wrong ids last chain.
     ⊎_elim
     (λ failed. let both : Failed ≡ InvalidData = sym failed.0 ∙ same in absurd (cc))
     (λ missing. missing.2 (starts_inside (entries_of c.args.self.now.fat) c.args.start ids last chain))
-    c.in_err-next.ensures.error
+    c.in_err-next.ensures.errors
 
 pub returns-then-branch-clause-chain : goal.returns-then-branch-clause-chain
 returns-then-branch-clause-chain g c =

@@ -6,7 +6,7 @@ use Rattle.cfb_fat.proofs.Places.{few_full, passed_attempts}
 use Rattle.cfb_fat.proofs.Sparing.{fewer_entries}
 use Rattle.std.proofs.lemmas.Bool.Decides.{eqb_tells}
 use Rattle.cfb_fat.proofs.GrowthSteps.{grows_failed, grows_marked, marked_one, marked_two, named_last, room_after}
-use Rattle.cfb_runs.specs.Tables.{entries_of}
+use Rattle.cfb_fat_runs.specs.Tables.{entries_of}
 use Rattle.cfb_fat.proofs.allocator.Allocator.lengthen.Goals as goal
 
 pub returns-then-can_name-clause-grows : goal.returns-then-can_name-clause-grows
@@ -21,12 +21,12 @@ returns-then-can_name-clause-added g c =
     let order = it.orderly c.requires.orderly in
     let did = c.in_ok-set_entry.ensures in
     let grown = c.in_ok-grow_fat.ensures in
-    let size = (did.changes.fat did.live).size ∙ ap length grown.tables.0 ∙ length-append (entries_of it.fat) (free ∷ []) in
+    let size = (did.changes.fat did.not_failed).size ∙ ap length grown.tables.0 ∙ length-append (entries_of it.fat) (free ∷ []) in
     let new = (entries_of c.set_entry.new.self.fat) in
     λ n past below none unset.
     let here : n ≡ length (entries_of it.fat) = omega (arith, size, past, below) in inr (
       (λ beside. named_last it.fat_sectors.items _ n (length (entries_of it.fat)) (did.changes.fat_sectors ∙ grown.tables.2) here beside),
-      ap (λ k. get_or new k 0) here ∙ marked_one (entries_of it.fat) new c.num_sectors-count.result fat_sector (c.num_sectors-count.ensures ∙ sym order.covered) (did.entry did.live ∙ ap (λ l. set l c.num_sectors-count.result fat_sector) grown.tables.0),
+      ap (λ k. get_or new k 0) here ∙ marked_one (entries_of it.fat) new c.num_sectors-count.result fat_sector (c.num_sectors-count.ensures ∙ sym order.covered) (did.entry did.not_failed ∙ ap (λ l. set l c.num_sectors-count.result fat_sector) grown.tables.0),
     )
 
 pub returns-then-can_name-clause-place : goal.returns-then-can_name-clause-place
@@ -35,7 +35,7 @@ returns-then-can_name-clause-place g c =
     let did = c.in_ok-set_entry.ensures in
     let grown = c.in_ok-grow_fat.ensures in
     let version = did.changes.version ∙ grown.grows.version in
-    let size : length (entries_of c.set_entry.new.self.fat) ≡ length (entries_of it.fat) + 1 = (did.changes.fat did.live).size ∙ ap length grown.tables.0 ∙ length-append (entries_of it.fat) (free ∷ []) in
+    let size : length (entries_of c.set_entry.new.self.fat) ≡ length (entries_of it.fat) + 1 = (did.changes.fat did.not_failed).size ∙ ap length grown.tables.0 ∙ length-append (entries_of it.fat) (free ∷ []) in
     let sectors : length c.set_entry.new.self.fat_sectors.items ≡ length it.fat_sectors.items + 1 = ap length (did.changes.fat_sectors ∙ grown.tables.2) ∙ length-append it.fat_sectors.items (length (entries_of it.fat) ∷ []) in
     let memory = (grown.spends 0 c.requires.memory).fat in let runs = did.runs in
     let less = few_full it.sectors.version (length (entries_of it.fat)) (length it.fat_sectors.items) c.requires.full (omega (arith, c.requires.few, (it.orderly c.requires.orderly).covered)) in
@@ -62,10 +62,10 @@ returns-clause-added g c =
     let second = c.in_ok-set_entry-3.ensures in
     let k = c.num_sectors-count.result in
     let grown = c.in_ok-grow_both.ensures in
-    let size = (second.changes.fat second.live).size ∙ (first.changes.fat first.live).size ∙ ap length grown.tables.0 ∙ length-append (entries_of it.fat) (free ∷ free ∷ []) in
+    let size = (second.changes.fat second.not_failed).size ∙ (first.changes.fat first.not_failed).size ∙ ap length grown.tables.0 ∙ length-append (entries_of it.fat) (free ∷ free ∷ []) in
     let new = (entries_of c.set_entry-3.new.self.fat) in
     let marks = marked_two (entries_of it.fat) new k difat_sector fat_sector (c.num_sectors-count.ensures ∙ sym order.covered)
-    (second.entry second.live ∙ ap (λ l. set l (k + 1) fat_sector) (first.entry first.live ∙ ap (λ l. set l k difat_sector) grown.tables.0)) in
+    (second.entry second.not_failed ∙ ap (λ l. set l (k + 1) fat_sector) (first.entry first.not_failed ∙ ap (λ l. set l k difat_sector) grown.tables.0)) in
     λ n past below none unset. ⊎_elim
     (λ here. inl (
       (λ beside. named_last it.difat_sectors.items _ n (length (entries_of it.fat)) (second.changes.difat_sectors ∙ first.changes.difat_sectors ∙ grown.tables.1) here.1 beside),
@@ -84,7 +84,7 @@ returns-clause-place g c =
     let second = c.in_ok-set_entry-3.ensures in
     let grown = c.in_ok-grow_both.ensures in
     let version = second.changes.version ∙ first.changes.version ∙ grown.grows.version in
-    let size : length (entries_of c.set_entry-3.new.self.fat) ≡ length (entries_of it.fat) + 2 = (second.changes.fat second.live).size ∙ (first.changes.fat first.live).size ∙ ap length grown.tables.0 ∙ length-append (entries_of it.fat) (free ∷ free ∷ []) in
+    let size : length (entries_of c.set_entry-3.new.self.fat) ≡ length (entries_of it.fat) + 2 = (second.changes.fat second.not_failed).size ∙ (first.changes.fat first.not_failed).size ∙ ap length grown.tables.0 ∙ length-append (entries_of it.fat) (free ∷ free ∷ []) in
     let sectors : length c.set_entry-3.new.self.fat_sectors.items ≡ length it.fat_sectors.items + 1 =
     ap length (second.changes.fat_sectors ∙ first.changes.fat_sectors ∙ grown.tables.2) ∙ length-append it.fat_sectors.items ((length (entries_of it.fat) + 1) ∷ []) in
     let memory = (grown.spends 0 c.requires.memory).fat in
@@ -100,20 +100,20 @@ pub returns-in_err-set_entry-clause-grows : goal.returns-in_err-set_entry-clause
 returns-in_err-set_entry-clause-grows g c =
     let grown = c.in_ok-grow_fat.ensures.grows in
     let set = c.in_err-set_entry.ensures in
-    grows_failed [] [] c.args.self.now c.set_entry.new.self (set.changes.honest ∙ grown.honest) (λ start from. set.changes.continues start (grown.continues start from)) (set.changes.version ∙ grown.version) set.err
+    grows_failed [] [] c.args.self.now c.set_entry.new.self (set.changes.honest ∙ grown.honest) (λ start from. set.changes.continues start (grown.continues start from)) (set.changes.version ∙ grown.version) set.after_error
 
 pub returns-in_err-set_entry-2-clause-grows : goal.returns-in_err-set_entry-2-clause-grows
 returns-in_err-set_entry-2-clause-grows g c =
     let grown = c.in_ok-grow_both.ensures.grows in
     let set = c.in_err-set_entry-2.ensures in
-    grows_failed [] [] c.args.self.now c.set_entry-2.new.self (set.changes.honest ∙ grown.honest) (λ start from. set.changes.continues start (grown.continues start from)) (set.changes.version ∙ grown.version) set.err
+    grows_failed [] [] c.args.self.now c.set_entry-2.new.self (set.changes.honest ∙ grown.honest) (λ start from. set.changes.continues start (grown.continues start from)) (set.changes.version ∙ grown.version) set.after_error
 
 pub set_entry-requires-3-clause-there : goal.set_entry-requires-3-clause-there
 set_entry-requires-3-clause-there g c =
     let it = c.args.self.now in
     let first = c.in_ok-set_entry-2.ensures in
     let order = it.orderly c.requires.orderly in
-    let size = (first.changes.fat first.live).size ∙ ap length c.in_ok-grow_both.ensures.tables.0 ∙ length-append (entries_of it.fat) (free ∷ free ∷ []) in
+    let size = (first.changes.fat first.not_failed).size ∙ ap length c.in_ok-grow_both.ensures.tables.0 ∙ length-append (entries_of it.fat) (free ∷ free ∷ []) in
     omega (arith, size, order.covered, c.num_sectors-count.ensures)
 
 pub returns-in_err-set_entry-3-clause-grows : goal.returns-in_err-set_entry-3-clause-grows
@@ -121,7 +121,7 @@ returns-in_err-set_entry-3-clause-grows g c =
     let grown = c.in_ok-grow_both.ensures.grows in
     let first = c.in_ok-set_entry-2.ensures.changes in
     let set = c.in_err-set_entry-3.ensures in
-    grows_failed [] [] c.args.self.now c.set_entry-3.new.self (set.changes.honest ∙ first.honest ∙ grown.honest) (λ start from. set.changes.continues start (first.continues start (grown.continues start from))) (set.changes.version ∙ first.version ∙ grown.version) set.err
+    grows_failed [] [] c.args.self.now c.set_entry-3.new.self (set.changes.honest ∙ first.honest ∙ grown.honest) (λ start from. set.changes.continues start (first.continues start (grown.continues start from))) (set.changes.version ∙ first.version ∙ grown.version) set.after_error
 
 pub returns-then-can_name-clause-spends : goal.returns-then-can_name-clause-spends
 returns-then-can_name-clause-spends g c = λ n memory. fewer_entries c.set_entry.new.self 2 1 n (omega arith) (c.in_ok-set_entry.ensures.memory 2 n (c.in_ok-grow_fat.ensures.spends n memory))
@@ -129,30 +129,30 @@ returns-then-can_name-clause-spends g c = λ n memory. fewer_entries c.set_entry
 pub returns-clause-spends : goal.returns-clause-spends
 returns-clause-spends g c = λ n memory. c.in_ok-set_entry-3.ensures.memory 1 n (c.in_ok-set_entry-2.ensures.memory 2 n (c.in_ok-grow_both.ensures.spends n memory))
 
-pub returns-in_err-set_entry-clause-attempts : goal.returns-in_err-set_entry-clause-attempts
-returns-in_err-set_entry-clause-attempts g c =
+pub returns-in_err-set_entry-clause-error_contract : goal.returns-in_err-set_entry-clause-error_contract
+returns-in_err-set_entry-clause-error_contract g c =
     let it = c.args.self.now in
     let grown = c.in_ok-grow_fat.ensures in
     let set = c.in_err-set_entry.ensures in
     passed_attempts c.from_residual-in_err-set_entry.result c.in_err-set_entry.field-0.0 it.sectors c.grow_fat.new.self.sectors c.set_entry.new.self.sectors c.from_residual-in_err-set_entry.ensures.1
-    grown.grows.continues (grown.attempts.live ∙ sym c.requires.live) set.err set.cause set.fault
+    grown.grows.continues (grown.error_contract.live ∙ sym c.requires.live) set.after_error set.cause set.errors
 
-pub returns-in_err-set_entry-2-clause-attempts : goal.returns-in_err-set_entry-2-clause-attempts
-returns-in_err-set_entry-2-clause-attempts g c =
+pub returns-in_err-set_entry-2-clause-error_contract : goal.returns-in_err-set_entry-2-clause-error_contract
+returns-in_err-set_entry-2-clause-error_contract g c =
     let it = c.args.self.now in
     let grown = c.in_ok-grow_both.ensures in
     let set = c.in_err-set_entry-2.ensures in
     passed_attempts c.from_residual-in_err-set_entry-2.result c.in_err-set_entry-2.field-0.0 it.sectors c.grow_both.new.self.sectors c.set_entry-2.new.self.sectors c.from_residual-in_err-set_entry-2.ensures.1
-    grown.grows.continues (grown.attempts.live ∙ sym c.requires.live) set.err set.cause set.fault
+    grown.grows.continues (grown.error_contract.live ∙ sym c.requires.live) set.after_error set.cause set.errors
 
-pub returns-in_err-set_entry-3-clause-attempts : goal.returns-in_err-set_entry-3-clause-attempts
-returns-in_err-set_entry-3-clause-attempts g c =
+pub returns-in_err-set_entry-3-clause-error_contract : goal.returns-in_err-set_entry-3-clause-error_contract
+returns-in_err-set_entry-3-clause-error_contract g c =
     let it = c.args.self.now in
     let grown = c.in_ok-grow_both.ensures in
     let first = c.in_ok-set_entry-2.ensures in
     let set = c.in_err-set_entry-3.ensures in
     passed_attempts c.from_residual-in_err-set_entry-3.result c.in_err-set_entry-3.field-0.0 it.sectors c.set_entry-2.new.self.sectors c.set_entry-3.new.self.sectors c.from_residual-in_err-set_entry-3.ensures.1
-    (λ start from. first.changes.continues start (grown.grows.continues start from)) (first.live ∙ sym c.requires.live) set.err set.cause set.fault
+    (λ start from. first.changes.continues start (grown.grows.continues start from)) (first.not_failed ∙ sym c.requires.live) set.after_error set.cause set.errors
 
 pub set_entry-requires-clause-room : goal.set_entry-requires-clause-room
 set_entry-requires-clause-room g c = inr (let memory = (c.in_ok-grow_fat.ensures.spends 0 c.requires.memory).fat in omega (arith, memory))

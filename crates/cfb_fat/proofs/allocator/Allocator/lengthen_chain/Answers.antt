@@ -6,14 +6,14 @@ use Rattle.cfb_sectors.specs.Copies.{copies}
 use Rattle.cfb_sectors.specs.Initial.{initial}
 use Rattle.cfb_sectors.specs.Sectors.{greatest_regular, joined}
 use Rattle.cfb_sectors.specs.declared.initial.SectorInit.{SectorInit}
-use Rattle.cfb_chains.specs.Changes.{AreAmong}
-use Rattle.cfb_chains.specs.Grown.{AreWritable, IsLinked}
+use Rattle.cfb_chains.specs.Changes.{AreSubsetOf}
+use Rattle.cfb_chains.specs.Grown.{AreSectorsWritable, IsChainInTable}
 use Rattle.cfb_chains.specs.LinkViews.{ids_of}
 use Rattle.cfb_chains.specs.Positions.{sectors_for}
 use Rattle.cfb_chains.proofs.Lending.{told_of_lent}
 use Rattle.cfb_fat.specs.declared.allocator.Allocator.{Allocator}
 use Rattle.cfb_fat.specs.Changing.{MayWrite}
-use Rattle.cfb_fat.specs.Growing.{LacksNumbers, TakesIn}
+use Rattle.cfb_fat.specs.Growing.{LacksSectorNumbers, AllocatesSectors}
 use Rattle.cfb_fat.specs.Tables.{bytes_of, fat_of, has_failed_here, is_honest, orderly_of, version_of}
 use Rattle.std.specs.Prelude.{OnOk}
 use Rattle.cfb_fat.proofs.allocator.Allocator.lengthen_chain.Goals as goal
@@ -21,7 +21,7 @@ use Rattle.cfb_fat.proofs.allocator.Allocator.lengthen_chain.Goals as goal
 module _ {F : Type 0} {g : Ghosts F} where
   -- the chain's bytes before, and what its new sectors hold
   abbrev Filled : SectorInit → Allocator F g → Version → List ℕ → Allocator F g → List ℕ → Type 0
-  Filled init a v s b t = IsTrue (is_honest a) → version_of a ≡ v → IsLinked (fat_of a) s → AreWritable (MayWrite a) v s
+  Filled init a v s b t = IsTrue (is_honest a) → version_of a ≡ v → IsChainInTable (fat_of a) s → AreSectorsWritable (MayWrite a) v s
       → joined v (bytes_of b) t ≡ joined v (bytes_of a) s ++ copies (length t - length s) (initial init (sector_len v))
 
 pub returns-clause-longer : goal.returns-clause-longer
@@ -30,7 +30,7 @@ returns-clause-longer g c =
     let made = c.new-chain.ensures in
     let self_is = c.self-1.given.1 (sym (c.set_len.ensures.same.holder ∙ made.same_reference)) in
     let links_is = c.links-1.given.1 (sym (c.set_len.ensures.same.links ∙ made.same_links)) in
-    told_of_lent (λ a v s b t. length s ≤ sectors_for v c.args.len → (more : List ℕ) × (changed : List ℕ) × (t ≡ s ++ more) × TakesIn {g = g.F.ReadMedium} more changed a b × (IsLinked (fat_of a) s → AreAmong t changed))
+    told_of_lent (λ a v s b t. length s ≤ sectors_for v c.args.len → (more : List ℕ) × (changed : List ℕ) × (t ≡ s ++ more) × AllocatesSectors {g = g.F.ReadMedium} more changed a b × (IsChainInTable (fat_of a) s → AreSubsetOf t changed))
     _ it _ _ _ _ _ _ _ _ made.holder made.chain.0 made.chain.1 self_is (ap ids_of links_is) c.set_len.ensures.longer c.requires.more
 
 pub returns-clause-filled : goal.returns-clause-filled
@@ -45,12 +45,12 @@ returns-clause-filled g c =
     told_of_lent (λ a v s b t. length s ≤ sectors_for v c.args.len → OnOk c.set_len.result (Filled {g = g.F.ReadMedium} c.args.init a v s b t))
     _ it _ _ _ _ _ _ _ _ made.holder made.chain.0 made.chain.1 self_is (ap ids_of links_is) filled c.requires.more
 
-pub returns-clause-full : goal.returns-clause-full
-returns-clause-full g c = λ is.
+pub returns-clause-full_only_if : goal.returns-clause-full_only_if
+returns-clause-full_only_if g c = λ is.
     let it = c.args.self.now in
     let made = c.new-chain.ensures in
     let self_is = c.self-1.given.1 (sym (c.set_len.ensures.same.holder ∙ made.same_reference)) in
     let links_is = c.links-1.given.1 (sym (c.set_len.ensures.same.links ∙ made.same_links)) in
-    let short = c.set_len.ensures.full is in
-    told_of_lent (λ a v s b t. IsTrue (orderly_of {g = g.F.ReadMedium} a) × (has_failed_here b ≡ false → LacksNumbers a (sectors_for v c.args.len - length s) ⊎ (greatest_regular + 1 < sectors_for v c.args.len)))
+    let short = c.set_len.ensures.full_only_if is in
+    told_of_lent (λ a v s b t. IsTrue (orderly_of {g = g.F.ReadMedium} a) × (has_failed_here b ≡ false → LacksSectorNumbers a (sectors_for v c.args.len - length s) ⊎ (greatest_regular + 1 < sectors_for v c.args.len)))
     _ it _ _ _ _ _ _ _ _ made.holder made.chain.0 made.chain.1 self_is (ap ids_of links_is) (short.orderly, short.lacks)

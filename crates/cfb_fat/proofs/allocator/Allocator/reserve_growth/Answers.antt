@@ -2,11 +2,11 @@ use Rattle.std.proofs.Common.{◌*◌, ◌/◌, ◌≤◌, ◌↔◌, length, ta
 use Rattle.cfb_medium.specs.Versions.{sector_len}
 use Rattle.cfb_sectors.specs.Held.{bytes_of, count_of, version_of}
 use Rattle.cfb_sectors.specs.Sectors.{fat_in}
-use Rattle.cfb_chains.specs.Changes.{IsNoneOf}
+use Rattle.cfb_chains.specs.Changes.{IsNotIn}
 use Rattle.cfb_fat.specs.Listed.{Lists}
-use Rattle.cfb_fat.specs.Orderly.{AreBelow, IsOrderly}
+use Rattle.cfb_fat.specs.Orderly.{AreBelow, AreTablesConsistent}
 use Rattle.cfb_fat.specs.Rising.{AreRead}
-use Rattle.cfb_runs.specs.Tables.{entries_of}
+use Rattle.cfb_fat_runs.specs.Tables.{entries_of}
 use Rattle.cfb_fat.proofs.Sparing.{memory_used}
 use Rattle.cfb_fat.proofs.allocator.Allocator.reserve_growth.Goals as goal
 
@@ -49,12 +49,12 @@ invariant_of-self g c =
       there = λ live. subst (AreBelow count) is (it.there live);
       inside = it.inside;
       whole = subst (λ l. length fat ≤ length l * (sector_len v / 4)) is it.whole;
-      packed = λ k below free no_ds no_fs. it.packed k below free no_ds (subst (λ l. IsNoneOf l k) (sym is) no_fs);
-      orderly = λ now. subst (λ l. IsOrderly v count fat l ds) is (it.orderly now);
+      packed = λ k below free no_ds no_fs. it.packed k below free no_ds (subst (λ l. IsNotIn l k) (sym is) no_fs);
+      orderly = λ now. subst (λ l. AreTablesConsistent v count fat l ds) is (it.orderly now);
       read_difat = it.read_difat;
       read_fat = subst (AreRead it.read.ids.items it.read.num_fat) is it.read_fat;
-      read_alone = λ n no_ds no_fs. it.read_alone n no_ds (subst (λ l. IsNoneOf l n) (sym is) no_fs);
-      listed = λ live honest. subst (λ l. IsTrue it.is_orderly ↔ (IsOrderly v count fat l ds × ∥ Lists v b ds l ∥₁)) is (it.listed live honest);
+      read_alone = λ n no_ds no_fs. it.read_alone n no_ds (subst (λ l. IsNotIn l n) (sym is) no_fs);
+      listed = λ live honest. subst (λ l. IsTrue it.is_orderly ↔ (AreTablesConsistent v count fat l ds × ∥ Lists v b ds l ∥₁)) is (it.listed live honest);
     }
 
 pub invariant_of-self-2 : goal.invariant_of-self-2
@@ -74,11 +74,11 @@ invariant_of-self-2 g c =
       there = λ live. subst (AreBelow count) is (it.there live);
       inside = it.inside;
       whole = subst (λ l. length fat ≤ length l * (sector_len v / 4)) is it.whole;
-      packed = λ k below free no_ds no_fs. it.packed k below free (subst (λ l. IsNoneOf l k) (sym is_ds) no_ds) (subst (λ l. IsNoneOf l k) (sym is) no_fs);
-      orderly = λ now. subst (λ l. IsOrderly v count fat new_fs l) is_ds (subst (λ l. IsOrderly v count fat l ds) is (it.orderly now));
+      packed = λ k below free no_ds no_fs. it.packed k below free (subst (λ l. IsNotIn l k) (sym is_ds) no_ds) (subst (λ l. IsNotIn l k) (sym is) no_fs);
+      orderly = λ now. subst (λ l. AreTablesConsistent v count fat new_fs l) is_ds (subst (λ l. AreTablesConsistent v count fat l ds) is (it.orderly now));
       read_difat = subst (AreRead it.read.ids.items it.read.num_difat) is_ds it.read_difat;
       read_fat = subst (AreRead it.read.ids.items it.read.num_fat) is it.read_fat;
-      read_alone = λ n no_ds no_fs. it.read_alone n (subst (λ l. IsNoneOf l n) (sym is_ds) no_ds) (subst (λ l. IsNoneOf l n) (sym is) no_fs);
-      listed = λ live honest. subst (λ l. IsTrue it.is_orderly ↔ (IsOrderly v count fat new_fs l × ∥ Lists v b l new_fs ∥₁)) is_ds
-          (subst (λ l. IsTrue it.is_orderly ↔ (IsOrderly v count fat l ds × ∥ Lists v b ds l ∥₁)) is (it.listed live honest));
+      read_alone = λ n no_ds no_fs. it.read_alone n (subst (λ l. IsNotIn l n) (sym is_ds) no_ds) (subst (λ l. IsNotIn l n) (sym is) no_fs);
+      listed = λ live honest. subst (λ l. IsTrue it.is_orderly ↔ (AreTablesConsistent v count fat new_fs l × ∥ Lists v b l new_fs ∥₁)) is_ds
+          (subst (λ l. IsTrue it.is_orderly ↔ (AreTablesConsistent v count fat l ds × ∥ Lists v b ds l ∥₁)) is (it.listed live honest));
     }

@@ -8,11 +8,11 @@ use Rattle.cfb_fat.proofs.ListedStays.{entry_aside, listed_still, longer_over, t
 use Rattle.cfb_fat.proofs.Listing.{header_whole}
 use Rattle.cfb_fat.proofs.EndsKept.{ends_beside, entry_inside, whole_over}
 use Rattle.cfb_fat.proofs.Entering.{differ_at, entered, index_in, order_stays, others_stay}
-use Rattle.cfb_chains.specs.Changes.{DifferAt}
+use Rattle.cfb_chains.specs.Changes.{DifferOnlyAt}
 use Rattle.cfb_fat.proofs.FatEntries.{per}
 use Rattle.cfb_fat.proofs.Sparing.{memory_used}
 use Rattle.cfb_fat.proofs.Packed.{packed_set, IsPacked}
-use Rattle.cfb_runs.specs.Tables.{entries_of}
+use Rattle.cfb_fat_runs.specs.Tables.{entries_of}
 use Rattle.cfb_fat.proofs.allocator.Allocator.set_entry.Goals as goal
 
 pub invariant_of-self-2 : goal.invariant_of-self-2
@@ -64,7 +64,7 @@ returns-clause-changes g c =
       difat_sectors = refl;
       orderly = refl;
       live = did.changes.live;
-      fat = λ live. subst (DifferAt (c.args.sector_id ∷ []) (entries_of it.fat)) (sym c.set.ensures.entries) (differ_at (entries_of it.fat) c.args.sector_id c.args.entry);
+      fat = λ live. subst (DifferOnlyAt (c.args.sector_id ∷ []) (entries_of it.fat)) (sym c.set.ensures.entries) (differ_at (entries_of it.fat) c.args.sector_id c.args.entry);
       longer = λ live honest. longer_over (bytes_of it.sectors) (bytes_of c.write_number.new.sectors) (to_le_bytes w32 c.args.entry) _ (did.changes.bytes live honest);
       told = λ live honest. let order = it.orderly c.requires.ready.1 in
           told_in it.sectors.version (bytes_of it.sectors) (bytes_of c.write_number.new.sectors) (to_le_bytes w32 c.args.entry) it.difat_sectors.items fs _ _ (did.changes.bytes live honest)

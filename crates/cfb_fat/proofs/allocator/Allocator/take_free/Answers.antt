@@ -11,7 +11,7 @@ use Rattle.cfb_fat.specs.Growing.{GrowsFat}
 use Rattle.cfb_fat.specs.Keeping.{grows_then}
 use Rattle.cfb_chains.proofs.Overwriting.{over_reaches, written}
 use Rattle.cfb_chains.proofs.Staying.{apart}
-use Rattle.cfb_chains.specs.Changes.{IsBeside, IsNoneOf}
+use Rattle.cfb_chains.specs.Changes.{IsBeside, IsNotIn}
 use Rattle.cfb_fat.proofs.allocator.Allocator.take_free.Goals as goal
 
 pub returns-in_err-set_entry-clause-none : goal.returns-in_err-set_entry-clause-none
@@ -20,7 +20,7 @@ returns-in_err-set_entry-clause-none g c =
     let first = c.in_ok-init_beside.ensures.writes.sectors.0 in
     let set = c.in_err-set_entry.ensures in
     on_err c.from_residual-in_err-set_entry.result (GrowsFat [] [] it c.set_entry.new.self)
-    (grows_failed [] [] it c.set_entry.new.self (set.changes.honest ∙ first.honest) (λ start from. set.changes.continues start (first.continues start from)) (set.changes.version ∙ first.version) set.err)
+    (grows_failed [] [] it c.set_entry.new.self (set.changes.honest ∙ first.honest) (λ start from. set.changes.continues start (first.continues start from)) (set.changes.version ∙ first.version) set.after_error)
 
 pub returns-clause-spends : goal.returns-clause-spends
 returns-clause-spends g c = λ entries n memory. c.in_ok-set_entry.ensures.memory entries n (c.in_ok-init_beside.ensures.memory (entries + 1) n memory)
@@ -45,10 +45,10 @@ returns-clause-occupies g c = record {
         let then = c.in_ok-set_entry.ensures in
         let changes = first.writes.sectors.0 in
         let fresh = first_bytes c.args.init (sector_len v) in
-        then.changes.beside then.live (subst IsTrue (sym changes.honest) honest) (sector_start v n) (sector_len v)
+        then.changes.beside then.not_failed (subst IsTrue (sym changes.honest) honest) (sector_start v n) (sector_len v)
         (subst (λ u. IsBeside u c.init_beside.new.self.fat_sectors.items (sector_start v n) (sector_len v)) (sym changes.version)
         (subst (λ l. IsBeside v l (sector_start v n) (sector_len v)) (sym first.writes.fat_sectors) (apart v it.fat_sectors.items n c.requires.no_fat)))
-        ∙ ap (λ l. filled_part l (sector_start v n) (sector_len v)) (changes.bytes first.live honest)
+        ∙ ap (λ l. filled_part l (sector_start v n) (sector_len v)) (changes.bytes first.not_failed honest)
         ∙ ap (filled_part _ (sector_start v n)) (sym (length-first c.args.init v)) ∙ written (bytes_of it.sectors) fresh (sector_start v n);
     writable =
         let it = c.args.self.now in
@@ -57,7 +57,7 @@ returns-clause-occupies g c = record {
         let first = c.in_ok-init_beside.ensures.writes in
         let then = c.in_ok-set_entry.ensures.changes in
         whole_writable c.set_entry.new.self (version_of it.sectors) n (then.version ∙ first.sectors.0.version) (omega (arith, c.requires.there, order.covered, then.count, first.sectors.1))
-        (subst (λ l. IsNoneOf l n) (sym (then.difat_sectors ∙ first.difat_sectors)) c.requires.no_difat) (subst (λ l. IsNoneOf l n) (sym (then.fat_sectors ∙ first.fat_sectors)) c.requires.no_fat);
+        (subst (λ l. IsNotIn l n) (sym (then.difat_sectors ∙ first.difat_sectors)) c.requires.no_difat) (subst (λ l. IsNotIn l n) (sym (then.fat_sectors ∙ first.fat_sectors)) c.requires.no_fat);
   };
   whole = λ honest.
       let it = c.args.self.now in
@@ -70,16 +70,16 @@ returns-clause-occupies g c = record {
       let fresh = first_bytes c.args.init (sector_len v) in
       let long = length-first c.args.init v in
       let reach = over_reaches (bytes_of it.sectors) fresh (sector_start v n) (subst (λ k. 0 < k) (sym long) (some_bytes v)) in
-      let at = ap length (changes.bytes first.live honest) in
-      let more = then.changes.longer then.live (subst IsTrue (sym changes.honest) honest) in
+      let at = ap length (changes.bytes first.not_failed honest) in
+      let more = then.changes.longer then.not_failed (subst IsTrue (sym changes.honest) honest) in
       let all : sector_start v n + sector_len v ≤ length now = omega (arith, reach, long, at, more) in
       (subst (λ u. sector_start u n + sector_len u ≤ length now) (sym (then.changes.version ∙ changes.version)) all, tt);
 }
 
-pub returns-in_err-set_entry-clause-attempts : goal.returns-in_err-set_entry-clause-attempts
-returns-in_err-set_entry-clause-attempts g c =
+pub returns-in_err-set_entry-clause-error_contract : goal.returns-in_err-set_entry-clause-error_contract
+returns-in_err-set_entry-clause-error_contract g c =
     let it = c.args.self.now in
     let first = c.in_ok-init_beside.ensures in
     let set = c.in_err-set_entry.ensures in
     passed_attempts c.from_residual-in_err-set_entry.result c.in_err-set_entry.field-0.0 it.sectors c.init_beside.new.self.sectors c.set_entry.new.self.sectors c.from_residual-in_err-set_entry.ensures.1
-    first.writes.sectors.0.continues (first.live ∙ sym c.requires.live) set.err set.cause set.fault
+    first.writes.sectors.0.continues (first.not_failed ∙ sym c.requires.live) set.after_error set.cause set.errors

@@ -11,5 +11,5 @@ returns-clause-leaves g c =
     let new = c.write_beside.new.self in
     let bytes = c.args.bytes.now in
     let at : c.in-Some.place ≡ sector_start it.sectors.version c.args.sector_id + c.args.offset = c.in-Some.ensures.1 ∙ ap (λ n. n + c.args.offset) c.start.ensures in
-    on_ok_map c.write_beside.result _ _ c.write_beside.ensures.live
+    on_ok_map c.write_beside.result _ _ c.write_beside.ensures.not_failed
     (λ live fits honest. writes_leave c.args.sector_id c.args.offset bytes it new fits (subst (λ p. WritesBeside p bytes it new) at c.write_beside.ensures.writes) live.1 honest)

@@ -21,5 +21,5 @@ returns-clause-leaves g c =
     let bytes = to_le_bytes w32 c.args.number in
     let wrote : WritesBeside (word_place word) bytes it new =
     subst (λ p. WritesBeside p bytes it new) c.place.ensures (subst (λ l. WritesBeside c.place.result l it new) c.to_le_bytes-bytes.ensures c.write_beside.ensures.writes) in
-    on_ok_map c.write_beside.result _ _ c.write_beside.ensures.live
+    on_ok_map c.write_beside.result _ _ c.write_beside.ensures.not_failed
     (λ live honest. word_leave (word_place word) bytes it new refl (⊎_elim (λ before. omega (arith, before)) (λ after. after.1) (beside_words word)) wrote live.1 honest)

@@ -1,6 +1,6 @@
 use Rattle.std.proofs.Common.{◌≡◌, take, drop, length, sym, subst, false}
 use Rattle.cfb_fat.specs.Tables.{has_failed_here}
-use Rattle.cfb_owned.specs.Chains.{content_of, HasLinks}
+use Rattle.cfb_chain_io.specs.ChainEffects.{content_of, HasFatChain}
 use Rattle.cfb_mini.specs.LinkViews.{minis_of}
 use Rattle.cfb_mini.specs.Minis.{mini_joined}
 use Rattle.cfb_mini.proofs.Keeping.{stream_links}
@@ -16,5 +16,5 @@ returns-clause-read g c =
     (λ read there honest is inside.
     let live = subst (λ x. has_failed_here x ≡ false) same there.0 in
     subst (λ x. c.read_minis.new.buffer ≡ take (length c.args.buffer.now) (drop c.args.at (mini_joined (content_of x stream) (minis_of c.args.links.now)))) same
-    (read (subst (λ x. HasLinks x stream) (sym same) (stream_links it live honest is)) inside))
+    (read (subst (λ x. HasFatChain x stream) (sym same) (stream_links it live honest is)) inside))
     c.read_minis.ensures.read c.read_minis.ensures.there

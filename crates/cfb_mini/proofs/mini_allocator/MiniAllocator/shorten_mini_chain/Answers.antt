@@ -1,7 +1,7 @@
 use Rattle.std.proofs.Common.{subst, sym}
 use Rattle.cfb_sectors.proofs.Appending.{on_ok}
-use Rattle.cfb_fat.specs.Tables.{AllRests}
-use Rattle.cfb_owned.specs.Chains.{GoesOn, HasChain}
+use Rattle.cfb_fat.specs.Tables.{OnlyReadsAllocator}
+use Rattle.cfb_chain_io.specs.ChainEffects.{KeepsFileInvariants, HasDataChain}
 use Rattle.cfb_mini.specs.NumberWrites.{CutsMinis}
 use Rattle.cfb_mini.specs.LinkViews.{minis_of}
 use Rattle.cfb_mini.proofs.Keeping.{fat_chain, rests_is, shortens_is}
@@ -17,12 +17,12 @@ returns-clause-shortened g c =
     let minis = minis_of c.args.links.now in
     let later = minis_of c.cut_minis.new.links in
     on_ok c.cut_minis.result _ _
-    (λ cuts own h linked. shortens_is c.args.count minis later it b mini own h linked (subst (λ x. GoesOn x b) same c.cut_minis.ensures.goes_on) c.allocator_mut.ensures.kept c.cut_minis.ensures.lies
-    (subst (λ x. CutsMinis c.args.count x b it.mini_fat mini minis later) same (cuts (subst (λ x. HasChain x it.mini_fat.links) (sym same) (fat_chain it own h)))))
+    (λ cuts own h linked. shortens_is c.args.count minis later it b mini own h linked (subst (λ x. KeepsFileInvariants x b) same c.cut_minis.ensures.invariants) c.allocator_mut.ensures.kept c.cut_minis.ensures.lies
+    (subst (λ x. CutsMinis c.args.count x b it.mini_fat mini minis later) same (cuts (subst (λ x. HasDataChain x it.mini_fat.links) (sym same) (fat_chain it own h)))))
     c.cut_minis.ensures.cuts
 
-pub returns-clause-rests : goal.returns-clause-rests
-returns-clause-rests g c =
+pub returns-clause-after_error : goal.returns-clause-after_error
+returns-clause-after_error g c =
     both_err c.cut_minis.result _ _ _ _
-    (λ rests same. rests_is c.args.self.now c.cut_minis.new.allocator c.cut_minis.new.mini_fat (subst (λ x. AllRests x c.cut_minis.new.allocator) c.allocator_mut.ensures.value rests) c.cut_minis.ensures.lies same)
-    c.cut_minis.ensures.answers.after c.cut_minis.ensures.rests
+    (λ rests same. rests_is c.args.self.now c.cut_minis.new.allocator c.cut_minis.new.mini_fat (subst (λ x. OnlyReadsAllocator x c.cut_minis.new.allocator) c.allocator_mut.ensures.value rests) c.cut_minis.ensures.lies same)
+    c.cut_minis.ensures.error_contract.after c.cut_minis.ensures.after_error

@@ -1,8 +1,8 @@
 use Rattle.std.proofs.Common.{inl, inr, ⊎_elim, [], ◌∷◌, length, refl, ap, sym, subst, ◌∙◌, arith, length-append, IsTrue}
 use Rattle.cfb_sectors.proofs.Appending.{on_ok}
 use Rattle.cfb_chains.specs.ChainCalls.{IsInvalidOrFull}
-use Rattle.cfb_owned.proofs.GoingOn.{goes_then, rests_go_on}
-use Rattle.cfb_mini.specs.Changing.{Lengthens}
+use Rattle.cfb_chain_io.proofs.GoingOn.{goes_then, rests_go_on}
+use Rattle.cfb_mini.specs.Changing.{AppendsMiniSectors}
 use Rattle.cfb_mini.specs.LinkViews.{minis_of}
 use Rattle.cfb_mini.specs.Views.{allocator_of}
 use Rattle.cfb_mini.proofs.Longer.{answers_after, lacks_rest, lengthened_owners, lengthens_begun, lengthens_by_fat, lengthens_by_one, lengthens_by_stream, lengthens_rest, mini_rests_then, own_now, owners_rest}
@@ -31,32 +31,32 @@ returns-in-Ok-false-clause-lengthens g c =
     (λ grown own h linked.
     let rested = lengthens_rest it it mid minis minis own refl (lengthens_begun it minis own h linked) none.0 in
     let grew = ⊎_elim (λ fat. lengthens_by_fat it mid new minis minis own version rested fat) (λ stream. lengthens_by_stream it mid new minis minis own version rested stream) (grown (own_now mid own) (lengthened_owners it mid minis minis own rested)) in
-    (subst (λ l. Lengthens it new minis l own) (sym none.1) grew, omega (arith, ap length none.1)))
+    (subst (λ l. AppendsMiniSectors it new minis l own) (sym none.1) grew, omega (arith, ap length none.1)))
     c.grow_tables.ensures.grown
 
-pub returns-in-Ok-false-clause-refused : goal.returns-in-Ok-false-clause-refused
-returns-in-Ok-false-clause-refused g c = λ wrong own h linked orderly.
+pub returns-in-Ok-false-clause-refused_only_if : goal.returns-in-Ok-false-clause-refused_only_if
+returns-in-Ok-false-clause-refused_only_if g c = λ wrong own h linked orderly.
     let none = c.in-Ok-false.ensures.none c.in-Ok-false.field-0-test in
-    c.grow_tables.ensures.refused wrong own (owners_rest c.args.self.now c.extend_mini_chain.new.self own none.0 h) (subst IsTrue (sym none.0.directory.allocator.orderly) orderly)
+    c.grow_tables.ensures.refused_only_if wrong own (owners_rest c.args.self.now c.extend_mini_chain.new.self own none.0 h) (subst IsTrue (sym none.0.directory.allocator.orderly) orderly)
 
-pub returns-in-Ok-false-clause-rests : goal.returns-in-Ok-false-clause-rests
-returns-in-Ok-false-clause-rests g c =
+pub returns-in-Ok-false-clause-after_error : goal.returns-in-Ok-false-clause-after_error
+returns-in-Ok-false-clause-after_error g c =
     let none = c.in-Ok-false.ensures.none c.in-Ok-false.field-0-test in
-    on_err c.grow_tables.result _ _ (⊎_elim (λ failed. inl failed) (λ rests. inr (mini_rests_then c.args.self.now c.extend_mini_chain.new.self c.grow_tables.new.self none.0 rests))) c.grow_tables.ensures.rests
+    on_err c.grow_tables.result _ _ (⊎_elim (λ failed. inl failed) (λ rests. inr (mini_rests_then c.args.self.now c.extend_mini_chain.new.self c.grow_tables.new.self none.0 rests))) c.grow_tables.ensures.after_error
 
-pub returns-in-Ok-false-clause-goes_on : goal.returns-in-Ok-false-clause-goes_on
-returns-in-Ok-false-clause-goes_on g c =
+pub returns-in-Ok-false-clause-invariants : goal.returns-in-Ok-false-clause-invariants
+returns-in-Ok-false-clause-invariants g c =
     let none = c.in-Ok-false.ensures.none c.in-Ok-false.field-0-test in
     let a = allocator_of c.args.self.now in
     let b = allocator_of c.extend_mini_chain.new.self in
-    goes_then a b (allocator_of c.grow_tables.new.self) (rests_go_on a b none.0.directory.allocator) c.grow_tables.ensures.goes_on
+    goes_then a b (allocator_of c.grow_tables.new.self) (rests_go_on a b none.0.directory.allocator) c.grow_tables.ensures.invariants
 
-pub returns-in-Ok-false-clause-answers : goal.returns-in-Ok-false-clause-answers
-returns-in-Ok-false-clause-answers g c =
+pub returns-in-Ok-false-clause-error_contract : goal.returns-in-Ok-false-clause-error_contract
+returns-in-Ok-false-clause-error_contract g c =
     let none = c.in-Ok-false.ensures.none c.in-Ok-false.field-0-test in
-    answers_after IsInvalidOrFull c.grow_tables.result (allocator_of c.args.self.now) (allocator_of c.extend_mini_chain.new.self) (allocator_of c.grow_tables.new.self) none.0.directory.allocator c.grow_tables.ensures.answers
+    answers_after IsInvalidOrFull c.grow_tables.result (allocator_of c.args.self.now) (allocator_of c.extend_mini_chain.new.self) (allocator_of c.grow_tables.new.self) none.0.directory.allocator c.grow_tables.ensures.error_contract
 
-pub returns-in-Ok-false-clause-full : goal.returns-in-Ok-false-clause-full
-returns-in-Ok-false-clause-full g c = λ wrong live is.
+pub returns-in-Ok-false-clause-full_only_if : goal.returns-in-Ok-false-clause-full_only_if
+returns-in-Ok-false-clause-full_only_if g c = λ wrong live is.
     let none = c.in-Ok-false.ensures.none c.in-Ok-false.field-0-test in
-    inl (lacks_rest c.args.self.now c.extend_mini_chain.new.self is none.0 (c.grow_tables.ensures.full wrong live (none.0.kept is)))
+    inl (lacks_rest c.args.self.now c.extend_mini_chain.new.self is none.0 (c.grow_tables.ensures.full_only_if wrong live (none.0.kept is)))

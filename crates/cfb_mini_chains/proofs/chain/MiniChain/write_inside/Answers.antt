@@ -6,4 +6,4 @@ pub returns-clause-written : goal.returns-clause-written
 returns-clause-written g c = λ own h.
     let it = c.args.self.now in
     let over = c.in_default.ensures.written own h.owners h.chain in
-    (over, record { owners = over.changes.owners; chain = chain_over (mini_of it) c.overwrite_mini_chain.new.self (links_of it) own _ _ c.overwrite_mini_chain.ensures.goes_on h.owners h.chain over })
+    (over, record { owners = over.changes.owners; chain = chain_over (mini_of it) c.overwrite_mini_chain.new.self (links_of it) own _ _ c.overwrite_mini_chain.ensures.invariants h.owners h.chain over })

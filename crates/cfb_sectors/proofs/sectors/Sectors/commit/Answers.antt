@@ -2,8 +2,8 @@ use Rattle.std.proofs.Common.{inl, ⊎_elim, inr}
 use Rattle.cfb_sectors.specs.Held.{medium_of}
 use Rattle.cfb_sectors.proofs.sectors.Sectors.commit.Goals as goal
 
-pub returns-then-self-clause-left : goal.returns-then-self-clause-left
-returns-then-self-clause-left g c = λ honest.
+pub returns-then-self-clause-crash : goal.returns-then-self-clause-crash
+returns-then-self-clause-crash g c = λ honest.
     let m = medium_of c.args.self.now in
     let still = g.met.F.ReadMedium.continues_leaves m m (g.met.F.ReadMedium.continues_refl m) in
     record {

@@ -18,8 +18,8 @@ returns-in-Ok-clause-named c =
           ∙ lossy_is units (sym b) ∙ ap (λ xs. map Some xs) name;
     }
 
-pub returns-in-Err-clause-error : goal.returns-in-Err-clause-error
-returns-in-Err-clause-error c =
+pub returns-in-Err-clause-errors : goal.returns-in-Err-clause-errors
+returns-in-Err-clause-errors c =
     let b = rw c.in-Err.is at c.in_ok-name.ensures.unpaired in
     let units = take c.saturating_sub-units.result c.args.self.now.name_units in
     inr (refl, λ name named. unpaired_none units name (sym b) (ap (λ n. utf16_chars (take n c.args.self.now.name_units)) c.saturating_sub-units.ensures ∙ named.spelled))

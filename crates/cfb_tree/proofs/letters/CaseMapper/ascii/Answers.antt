@@ -5,7 +5,7 @@ use Rattle.std.specs.List.{AllByRecursion, IsDistinct, range_with_len}
 use Rattle.std.proofs.lemmas.Bool.Decides.{nat_tests}
 use Rattle.cfb_medium.specs.declared.error.Error.{Error}
 use Rattle.cfb_medium.specs.declared.error.Error.TheVariants.{InvalidInput, Memory}
-use Rattle.cfb_tree.specs.Names.{ascii_letters, AreLetters, Letters}
+use Rattle.cfb_tree.specs.Names.{ascii_letters, AreLetters, CaseTable}
 use Rattle.cfb_tree.proofs.NamesRead.{one_unit}
 use Rattle.cfb_tree.proofs.letters.CaseMapper.ascii.Goals as goal
 
@@ -25,10 +25,10 @@ long : (n a : ℕ) → a + n ≤ 26 → AllByRecursion (λ pair. length (encode_
 long zero a h = tt
 long (suc n) a h = (ap length (one_unit (97 + a) (omega arith)) ∙ sym (ap length (one_unit (65 + a) (omega arith))), long n (a + 1) (omega arith))
 
-only_memory : {A : Type 0} (r : Result A Error) (letters : Letters) → AreLetters letters → IfErr r (λ e. (e ≡ Memory) ⊎ ((e ≡ InvalidInput) × (AreLetters letters → ⊥))) → IfErr r (λ e. e ≡ Memory)
+only_memory : {A : Type 0} (r : Result A Error) (letters : CaseTable) → AreLetters letters → IfErr r (λ e. (e ≡ Memory) ⊎ ((e ≡ InvalidInput) × (AreLetters letters → ⊥))) → IfErr r (λ e. e ≡ Memory)
 only_memory (Ok x) letters are h = h
 only_memory (Err e) letters are (inl memory) = memory
 only_memory (Err e) letters are (inr refused) = absurd (refused.1 are)
 
-pub returns-clause-error : goal.returns-clause-error
-returns-clause-error c = only_memory c.new.result ascii_letters (record { once = distinct 26 0; as_long = long 26 0 (omega arith) }) c.new.ensures.error
+pub returns-clause-errors : goal.returns-clause-errors
+returns-clause-errors c = only_memory c.new.result ascii_letters (record { once = distinct 26 0; as_long = long 26 0 (omega arith) }) c.new.ensures.errors

@@ -19,8 +19,8 @@ loop-from-init c = record {
   scalars = λ q h. subst IsScalar (sym (no_letters q c.new-letters.result.entries c.new-letters.ensures.empty)) h;
 }
 
-pub returns-then-len_utf16-clause-error : goal.returns-then-len_utf16-clause-error
-returns-then-len_utf16-clause-error c =
+pub returns-then-len_utf16-clause-errors : goal.returns-then-len_utf16-clause-errors
+returns-then-len_utf16-clause-errors c =
     let pairs = c.args.pairs.now in
     let i = c.loop-from.from-index in
     let p = get_or pairs i (0, 0) in
@@ -32,8 +32,8 @@ returns-then-len_utf16-clause-error c =
           ∙ sym (unit_count c.len_utf16-in-loop-from.result p.1 c.len_utf16-in-loop-from.ensures.bmp c.len_utf16-in-loop-from.ensures.surrogate_pair)),
     )
 
-pub returns-then-contains_key-clause-error : goal.returns-then-contains_key-clause-error
-returns-then-contains_key-clause-error c =
+pub returns-then-contains_key-clause-errors : goal.returns-then-contains_key-clause-errors
+returns-then-contains_key-clause-errors c =
     let pairs = c.args.pairs.now in
     let i = c.loop-from.from-index in
     let p = get_or pairs i (0, 0) in

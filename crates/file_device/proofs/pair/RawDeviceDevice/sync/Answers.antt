@@ -5,8 +5,8 @@ use Rattle.file_device.proofs.Ticks.{tick_leaves, rests_then}
 use Rattle.file_device.proofs.pair.RawDeviceDevice.sync.Goals as goal
 use Rattle.file_device.proofs.pair.RawDeviceDevice.sync.Goals.{in-Home, in-Log}
 
-pub returns-in-Ok-clause-rests : goal.returns-in-Ok-clause-rests
-returns-in-Ok-clause-rests g c = λ start rests.
+pub returns-in-Ok-clause-only_reads : goal.returns-in-Ok-clause-only_reads
+returns-in-Ok-clause-only_reads g c = λ start rests.
     let old = c.args.self.now in
     let left_at = g.F.RawFile.left_at in
     let stays = g.met.F.RawFile.stays in
@@ -46,8 +46,8 @@ returns-in-Ok-clause-rests g c = λ start rests.
       remembers = λ t left earlier since. let within = since.2 in (since.0, since.1, (let e : since.0 ≤ old.ticks + 1 = omega arith in e), back since.0 left since.2 since.3);
     })
 
-pub returns-in-Err-clause-rests : goal.returns-in-Err-clause-rests
-returns-in-Err-clause-rests g c = λ start rests.
+pub returns-in-Err-clause-only_reads : goal.returns-in-Err-clause-only_reads
+returns-in-Err-clause-only_reads g c = λ start rests.
     let old = c.args.self.now in
     let left_at = g.F.RawFile.left_at in
     let stays = g.met.F.RawFile.stays in

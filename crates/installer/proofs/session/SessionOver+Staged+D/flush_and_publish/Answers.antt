@@ -15,13 +15,13 @@ returns-in-Ok-clause-follows g c =
     let it = c.args.self.now in
     let mid = c.write_out.new.self in
     let quiet = follows_quietly d.counts_now d.rests_keeps d.rests_leaves (λ m. record { device = d.rests_refl _; failed = refl }) (λ a b k. k.device) (λ a b k. k.failed) asked.flush told.done it mid refl refl c.in-Ok.ensures.quiet in
-    follows_before it mid _ (told_of c.publish.result) (flush_stands it mid c.requires.live c.in-Ok.ensures.live c.requires.sound quiet) c.publish.ensures.follows
+    follows_before it mid _ (told_of c.publish.result) (flush_stands it mid c.requires.live c.in-Ok.ensures.not_failed c.requires.sound quiet) c.publish.ensures.follows
 
 pub returns-in-Ok-clause-published : goal.returns-in-Ok-clause-published
 returns-in-Ok-clause-published g c =
     let it = c.args.self.now in
     let mid = c.write_out.new.self in
-    published_before it mid c.in-Ok.ensures.quiet (λ P held. flush_holds it mid c.requires.live c.in-Ok.ensures.live c.in-Ok.ensures.quiet P held) _ c.publish.result c.publish.ensures.published
+    published_before it mid c.in-Ok.ensures.quiet (λ P held. flush_holds it mid c.requires.live c.in-Ok.ensures.not_failed c.in-Ok.ensures.quiet P held) _ c.publish.result c.publish.ensures.published
 
 pub returns-in-Err-clause-follows : goal.returns-in-Err-clause-follows
 returns-in-Err-clause-follows g c =

@@ -6,7 +6,7 @@ use Rattle.installer.proofs.Following.{commit_survives, left_found, not_failed_e
 use Rattle.installer.proofs.Going.{by_sound}
 use Rattle.installer.proofs.Stopping.{survives_stay}
 use Rattle.installer.specs.Step.{told_of}
-use Rattle.installer.specs.Sessions.{device_below, is_failed, letters_in, package_in, phase_of}
+use Rattle.installer.specs.Sessions.{device_below, is_failed, session_case_table, package_in, phase_of}
 use Rattle.msi.specs.Opened.{file_in}
 use Rattle.staged.specs.Staged.{device_of}
 use Rattle.command_file.specs.Request as asked
@@ -18,7 +18,7 @@ returns-clause-follows g c =
     let old = package_in c.args.self.now in
     let new = c.commit-published.new.self in
     let told = c.commit-published.ensures in
-    let stay = survives_stay (letters_in c.args.self.now) g.D.Device d.counts_now d.only_now (device_below c.args.self.now) in
+    let stay = survives_stay (session_case_table c.args.self.now) g.D.Device d.counts_now d.only_now (device_below c.args.self.now) in
     let next = record c.args.self.now { «package» = new; has_base = c.has_base_after-has_base.result } in
     record {
       goes = publish_goes d.counts_now d.rests_keeps d.rests_leaves (λ m. record { device = d.rests_refl _; failed = refl }) (λ a b k. k.device) (λ a b k. k.failed) (λ m. refl) c.args.self.now next c.requires
@@ -32,9 +32,9 @@ returns-clause-follows g c =
           let held = at.place.held (at.place.phase ∙ ap phase_of c.requires) in
           ⊎_elim
           (λ sound. rw sound (
-          commit_survives d.counts_now (letters_in c.args.self.now) (device_below c.args.self.now) (device_of (medium_in (file_in new))) start.held c.commit-published.result told.honest told.counted
+          commit_survives d.counts_now (session_case_table c.args.self.now) (device_below c.args.self.now) (device_of (medium_in (file_in new))) start.held c.commit-published.result told.honest told.counted
           (λ honest.
-          let left = told.left honest in record {
+          let left = told.crash honest in record {
             later = left.later;
             each = λ given since. left_found old start.held held (sym at.place.sound ∙ sound) given (left.each given since);
             before = λ t given le since. ⊎_elim (λ past. inl past) (λ now. inr (left_found old start.held held (sym at.place.sound ∙ sound) given now)) (left.before t given le since);

@@ -36,4 +36,4 @@ returns g c =
     let kept = d.rests_keeps _ _ on.device in
     back_follows d.counts_now d.rests_keeps d.rests_leaves it (record it { «package» = c.roll_back.new.self }) (sym c.is_sound.ensures ∙ c.if-not-is_sound.false) c.if-not-self.false refl on.device
     (record { as_honest = kept.as_honest; as_failed = on.failed; counted = kept.counted }) refl told.letters told.sound
-    c.roll_back.result told.back told.left told.refused (IfErr-weaker c.roll_back.result _ _ (λ e cause. cause was (record { device = d.rests_refl _; failed = refl })) told.cause)
+    c.roll_back.result told.back told.left told.refused_only_if (IfErr-weaker c.roll_back.result _ _ (λ e cause. cause was (record { device = d.rests_refl _; failed = refl })) told.cause)

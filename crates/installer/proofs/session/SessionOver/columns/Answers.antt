@@ -5,7 +5,7 @@ use Rattle.command_file.specs.Request as asked
 use Rattle.installer.proofs.Columns.{columns_found, columns_lost}
 use Rattle.installer.specs.Reply as told
 use Rattle.installer.specs.Sessions.{package_in}
-use Rattle.msi_meaning.specs.Calls.{found_table}
+use Rattle.msi_spec.specs.Calls.{found_table}
 use Rattle.installer.proofs.session.SessionOver.columns.Goals as goal
 
 pub returns-in-None : goal.returns-in-None
@@ -26,4 +26,4 @@ returns-in-Ok g c =
 pub returns-in-Err : goal.returns-in-Err
 returns-in-Err g c =
     let G = g.met.F.ReadMedium in
-    answers_memory G.continues_refl G.continues_keeps c.args.self.now _ c.requires refl (rests_itself (package_in c.args.self.now)) (asked.columns c.args.name.now) c.in-Err.error refl c.in-Err.ensures.kinds
+    answers_memory G.continues_refl G.continues_keeps c.args.self.now _ c.requires refl (rests_itself (package_in c.args.self.now)) (asked.columns c.args.name.now) c.in-Err.error refl c.in-Err.ensures.errors

@@ -1,18 +1,18 @@
 use Rattle.std.proofs.Common.{inl, refl, subst}
 use Rattle.installer.proofs.Answering.{answers_changes, answers_memory, may_fill, rests_itself}
 use Rattle.msi_columns.specs.Held.{columns_of}
-use Rattle.msi_meaning.specs.Calls.{Creates}
-use Rattle.installer.specs.Sessions.{letters_in, package_in}
+use Rattle.msi_spec.specs.Calls.{Creates}
+use Rattle.installer.specs.Sessions.{session_case_table, package_in}
 use Rattle.installer.proofs.session.SessionOver.create_table.Goals as goal
 
 pub returns-in-Ok : goal.returns-in-Ok
 returns-in-Ok g c =
     let G = g.met.F.ReadMedium in
-    answers_changes G.continues_refl G.continues_keeps c.args.self.now _ c.requires refl (λ P Q answer. Creates (letters_in c.args.self.now) P c.args.name.now (columns_of c.in-Ok.columns.items) Q answer) _ _
-    c.create_table.result refl (λ P Q answer made. inl (answer, subst (λ columns. Creates (letters_in c.args.self.now) P c.args.name.now columns Q answer) c.in-Ok.ensures.copies made, refl))
-    c.create_table.ensures.changes c.create_table.ensures.goes_on c.create_table.ensures.cause (may_fill c.create_table.result refl) c.answer_of.ensures
+    answers_changes G.continues_refl G.continues_keeps c.args.self.now _ c.requires refl (λ P Q answer. Creates (session_case_table c.args.self.now) P c.args.name.now (columns_of c.in-Ok.columns.items) Q answer) _ _
+    c.create_table.result refl (λ P Q answer made. inl (answer, subst (λ columns. Creates (session_case_table c.args.self.now) P c.args.name.now columns Q answer) c.in-Ok.ensures.copies made, refl))
+    c.create_table.ensures.changes c.create_table.ensures.invariants c.create_table.ensures.cause (may_fill c.create_table.result refl) c.answer_of.ensures
 
 pub returns-in-Err : goal.returns-in-Err
 returns-in-Err g c =
     let G = g.met.F.ReadMedium in
-    answers_memory G.continues_refl G.continues_keeps c.args.self.now _ c.requires refl (rests_itself (package_in c.args.self.now)) _ c.in-Err.error refl c.in-Err.ensures.kinds
+    answers_memory G.continues_refl G.continues_keeps c.args.self.now _ c.requires refl (rests_itself (package_in c.args.self.now)) _ c.in-Err.error refl c.in-Err.ensures.errors

@@ -9,15 +9,15 @@ pub returns-in-Err : goal.returns-in-Err
 returns-in-Err g c =
     let G = g.met.F.ReadMedium in
     answers_refused G.continues_refl G.continues_keeps c.args.self.now _ c.requires refl (rests_itself (package_in c.args.self.now)) asked.streams c.in-Err.error refl refl c.in-Err.ensures.cause
-    (λ P h. inl (c.in-Err.ensures.told P h))
+    (λ P h. inl (c.in-Err.ensures.answer P h))
 
 pub returns-in-Ok-names_of_streams : goal.returns-in-Ok-names_of_streams
 returns-in-Ok-names_of_streams g c =
     let G = g.met.F.ReadMedium in
     answers_told G.continues_refl G.continues_keeps c.args.self.now _ c.requires refl (rests_itself (package_in c.args.self.now)) asked.streams (told.names _) refl refl
-    (λ P h. (refl, ap (λ names. told.names names) (c.in-Ok-names_of_streams.ensures.names ∙ c.in-Ok.ensures.told P h)))
+    (λ P h. (refl, ap (λ names. told.names names) (c.in-Ok-names_of_streams.ensures.names ∙ c.in-Ok.ensures.answer P h)))
 
 pub returns-in-Err-names_of_streams : goal.returns-in-Err-names_of_streams
 returns-in-Err-names_of_streams g c =
     let G = g.met.F.ReadMedium in
-    answers_memory G.continues_refl G.continues_keeps c.args.self.now _ c.requires refl (rests_itself (package_in c.args.self.now)) asked.streams c.in-Err-names_of_streams.error refl c.in-Err-names_of_streams.ensures.kinds
+    answers_memory G.continues_refl G.continues_keeps c.args.self.now _ c.requires refl (rests_itself (package_in c.args.self.now)) asked.streams c.in-Err-names_of_streams.error refl c.in-Err-names_of_streams.ensures.errors

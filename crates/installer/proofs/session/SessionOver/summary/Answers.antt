@@ -16,4 +16,4 @@ returns-in-Ok g c =
 pub returns-in-Err : goal.returns-in-Err
 returns-in-Err g c =
     let G = g.met.F.ReadMedium in
-    answers_memory G.continues_refl G.continues_keeps c.args.self.now _ c.requires refl (rests_itself (package_in c.args.self.now)) asked.summary c.in-Err.error refl c.in-Err.ensures.kinds
+    answers_memory G.continues_refl G.continues_keeps c.args.self.now _ c.requires refl (rests_itself (package_in c.args.self.now)) asked.summary c.in-Err.error refl c.in-Err.ensures.errors

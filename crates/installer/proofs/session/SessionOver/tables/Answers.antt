@@ -8,7 +8,7 @@ use Rattle.installer.proofs.session.SessionOver.tables.Goals as goal
 pub returns-in-Err : goal.returns-in-Err
 returns-in-Err g c =
     let G = g.met.F.ReadMedium in
-    answers_memory G.continues_refl G.continues_keeps c.args.self.now _ c.requires refl (rests_itself (package_in c.args.self.now)) asked.tables c.in-Err.error refl c.in-Err.ensures.err
+    answers_memory G.continues_refl G.continues_keeps c.args.self.now _ c.requires refl (rests_itself (package_in c.args.self.now)) asked.tables c.in-Err.error refl c.in-Err.ensures.errors
 
 pub returns-in-Ok-names_of_tables : goal.returns-in-Ok-names_of_tables
 returns-in-Ok-names_of_tables g c =
@@ -19,4 +19,4 @@ returns-in-Ok-names_of_tables g c =
 pub returns-in-Err-names_of_tables : goal.returns-in-Err-names_of_tables
 returns-in-Err-names_of_tables g c =
     let G = g.met.F.ReadMedium in
-    answers_memory G.continues_refl G.continues_keeps c.args.self.now _ c.requires refl (rests_itself (package_in c.args.self.now)) asked.tables c.in-Err-names_of_tables.error refl c.in-Err-names_of_tables.ensures.kinds
+    answers_memory G.continues_refl G.continues_keeps c.args.self.now _ c.requires refl (rests_itself (package_in c.args.self.now)) asked.tables c.in-Err-names_of_tables.error refl c.in-Err-names_of_tables.ensures.errors

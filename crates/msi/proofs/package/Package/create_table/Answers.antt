@@ -1,7 +1,7 @@
 use Rattle.std.proofs.Common.{◌∙◌, refl, sym}
-use Rattle.cfb.specs.Views.{letters_in}
+use Rattle.cfb.specs.Views.{file_case_table}
 use Rattle.msi_columns.specs.Held.{columns_of}
-use Rattle.msi_meaning.specs.Calls.{Creates}
+use Rattle.msi_spec.specs.Calls.{Creates}
 use Rattle.msi.specs.Changing.{failed_in}
 use Rattle.msi.specs.Opened.{file_in, sound_in}
 use Rattle.msi.proofs.Filled.{not_permitted_fills, rows_fill}
@@ -12,12 +12,12 @@ use Rattle.msi.proofs.package.Package.create_table.Goals as goal
 
 pub returns-in-Err-clause-changes : goal.returns-in-Err-clause-changes
 returns-in-Err-clause-changes g c =
-    not_permitted (λ P Q answer. Creates (letters_in (file_in c.args.self.now)) P c.args.name.now (columns_of c.args.columns.items) Q answer) c.args.self.now c.in-Err.error (sym c.may_change.ensures ∙ c.in-Err.is)
+    not_permitted (λ P Q answer. Creates (file_case_table (file_in c.args.self.now)) P c.args.name.now (columns_of c.args.columns.items) Q answer) c.args.self.now c.in-Err.error (sym c.may_change.ensures ∙ c.in-Err.is)
 
 pub returns-clause-changes : goal.returns-clause-changes
 returns-clause-changes g c =
     let it = c.args.self.now in
-    let l = letters_in (file_in it) in
+    let l = file_case_table (file_in it) in
     let name = c.args.name.now in
     let cs = columns_of c.args.columns.items in
     let may = permitted (failed_in it) (sound_in it) (sym c.may_change.ensures ∙ c.in_default.is) in
@@ -28,11 +28,11 @@ returns-clause-changes g c =
 pub returns-in-Err-clause-cause : goal.returns-in-Err-clause-cause
 returns-in-Err-clause-cause g c = refused_cause (λ m n from. (g.met.F.ReadMedium.continues_keeps m n from).as_failed) c.args.self.now c.in-Err.error (sym c.may_change.ensures ∙ c.in-Err.is)
 
-pub returns-in-Err-clause-kinds : goal.returns-in-Err-clause-kinds
-returns-in-Err-clause-kinds g c = refused_change c.args.self.now c.in-Err.error (sym c.may_change.ensures ∙ c.in-Err.is)
+pub returns-in-Err-clause-errors : goal.returns-in-Err-clause-errors
+returns-in-Err-clause-errors g c = refused_change c.args.self.now c.in-Err.error (sym c.may_change.ensures ∙ c.in-Err.is)
 
-pub returns-in-Err-clause-full : goal.returns-in-Err-clause-full
-returns-in-Err-clause-full g c = not_permitted_fills (λ P Q answer. Creates (letters_in (file_in c.args.self.now)) P c.args.name.now (columns_of c.args.columns.items) Q answer) c.args.self.now c.in-Err.error (sym c.may_change.ensures ∙ c.in-Err.is)
+pub returns-in-Err-clause-full_only_if : goal.returns-in-Err-clause-full_only_if
+returns-in-Err-clause-full_only_if g c = not_permitted_fills (λ P Q answer. Creates (file_case_table (file_in c.args.self.now)) P c.args.name.now (columns_of c.args.columns.items) Q answer) c.args.self.now c.in-Err.error (sym c.may_change.ensures ∙ c.in-Err.is)
 
-pub returns-clause-full : goal.returns-clause-full
-returns-clause-full g c = rows_fill (λ P Q answer. Creates (letters_in (file_in c.args.self.now)) P c.args.name.now (columns_of c.args.columns.items) Q answer) c.args.self.now (record c.args.self.now { store = c.create_table.new.store; pool = c.create_table.new.pool }) c.create_table.result c.create_table.ensures.full
+pub returns-clause-full_only_if : goal.returns-clause-full_only_if
+returns-clause-full_only_if g c = rows_fill (λ P Q answer. Creates (file_case_table (file_in c.args.self.now)) P c.args.name.now (columns_of c.args.columns.items) Q answer) c.args.self.now (record c.args.self.now { store = c.create_table.new.store; pool = c.create_table.new.pool }) c.create_table.result c.create_table.ensures.full_only_if

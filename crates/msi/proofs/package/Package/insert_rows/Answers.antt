@@ -1,6 +1,6 @@
 use Rattle.std.proofs.Common.{◌∙◌, refl, sym}
 use Rattle.msi_changes.specs.Said.{insert_name, insert_rows}
-use Rattle.msi_meaning.specs.Calls.{Inserts}
+use Rattle.msi_spec.specs.Calls.{Inserts}
 use Rattle.msi.specs.Changing.{failed_in}
 use Rattle.msi.specs.Opened.{sound_in}
 use Rattle.msi.proofs.Changed.{rows_changed}
@@ -26,11 +26,11 @@ returns-clause-changes g c =
 pub returns-in-Err-clause-cause : goal.returns-in-Err-clause-cause
 returns-in-Err-clause-cause g c = refused_cause (λ m n from. (g.met.F.ReadMedium.continues_keeps m n from).as_failed) c.args.self.now c.in-Err.error (sym c.may_change.ensures ∙ c.in-Err.is)
 
-pub returns-in-Err-clause-kinds : goal.returns-in-Err-clause-kinds
-returns-in-Err-clause-kinds g c = refused_change c.args.self.now c.in-Err.error (sym c.may_change.ensures ∙ c.in-Err.is)
+pub returns-in-Err-clause-errors : goal.returns-in-Err-clause-errors
+returns-in-Err-clause-errors g c = refused_change c.args.self.now c.in-Err.error (sym c.may_change.ensures ∙ c.in-Err.is)
 
-pub returns-in-Err-clause-full : goal.returns-in-Err-clause-full
-returns-in-Err-clause-full g c = not_permitted_fills (λ P Q answer. Inserts P (insert_name c.args.query.now) (insert_rows c.args.query.now) Q answer) c.args.self.now c.in-Err.error (sym c.may_change.ensures ∙ c.in-Err.is)
+pub returns-in-Err-clause-full_only_if : goal.returns-in-Err-clause-full_only_if
+returns-in-Err-clause-full_only_if g c = not_permitted_fills (λ P Q answer. Inserts P (insert_name c.args.query.now) (insert_rows c.args.query.now) Q answer) c.args.self.now c.in-Err.error (sym c.may_change.ensures ∙ c.in-Err.is)
 
-pub returns-clause-full : goal.returns-clause-full
-returns-clause-full g c = rows_fill (λ P Q answer. Inserts P (insert_name c.args.query.now) (insert_rows c.args.query.now) Q answer) c.args.self.now (record c.args.self.now { store = c.insert_rows.new.store; pool = c.insert_rows.new.pool }) c.insert_rows.result c.insert_rows.ensures.full
+pub returns-clause-full_only_if : goal.returns-clause-full_only_if
+returns-clause-full_only_if g c = rows_fill (λ P Q answer. Inserts P (insert_name c.args.query.now) (insert_rows c.args.query.now) Q answer) c.args.self.now (record c.args.self.now { store = c.insert_rows.new.store; pool = c.insert_rows.new.pool }) c.insert_rows.result c.insert_rows.ensures.full_only_if

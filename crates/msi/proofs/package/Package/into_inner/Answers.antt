@@ -4,16 +4,16 @@ pub returns-in-Ok-clause-ok : goal.returns-in-Ok-clause-ok
 returns-in-Ok-clause-ok g c = record {
   new = c.flush.new.self;
   writes = c.in-Ok.ensures.writes;
-  goes_on = c.flush.ensures.goes_on;
+  goes_on = c.flush.ensures.invariants;
   cause = tt;
   medium_is = c.into_medium.ensures;
 }
 
-pub returns-in-Err-clause-err : goal.returns-in-Err-clause-err
-returns-in-Err-clause-err g c = record {
+pub returns-in-Err-clause-after_error : goal.returns-in-Err-clause-after_error
+returns-in-Err-clause-after_error g c = record {
   new = c.flush.new.self;
   writes = c.in-Err.ensures.writes;
-  goes_on = c.flush.ensures.goes_on;
+  goes_on = c.flush.ensures.invariants;
   cause = c.in-Err.ensures.cause;
   medium_is = c.into_medium-in-Err.ensures;
 }

@@ -1,11 +1,11 @@
 use Rattle.std.proofs.Common.{◌∙◌, inl, inr, refl, sym}
-use Rattle.cfb_tree.specs.LetterViews.{letters_of}
+use Rattle.cfb_tree.specs.CaseTableViews.{case_table_of}
 use Rattle.msi_parts.proofs.Touching.{may_be_used, may_not_be_used}
 use Rattle.msi.proofs.OpenedPackages.{answer_cause, answer_left, answer_opened, answer_opens, answer_refused}
 use Rattle.msi.proofs.package.Package.open.Goals as goal
 
-pub returns-then-touches-clause-refused : goal.returns-then-touches-clause-refused
-returns-then-touches-clause-refused g c honest = inr (inl (refl, may_not_be_used (letters_of c.args.letters) (sym c.touches.ensures ∙ c.if-touches.true)))
+pub returns-then-touches-clause-refused_only_if : goal.returns-then-touches-clause-refused_only_if
+returns-then-touches-clause-refused_only_if g c honest = inr (inl (refl, may_not_be_used (case_table_of c.args.letters) (sym c.touches.ensures ∙ c.if-touches.true)))
 
 pub returns-in-Ok-clause-opens : goal.returns-in-Ok-clause-opens
 returns-in-Ok-clause-opens g c = answer_opens c.args.medium c.in-Ok.file c.in-Ok.ensures.opens c.opened_package.result c.opened_package.ensures.ok
@@ -13,15 +13,15 @@ returns-in-Ok-clause-opens g c = answer_opens c.args.medium c.in-Ok.file c.in-Ok
 pub returns-in-Ok-clause-opened : goal.returns-in-Ok-clause-opened
 returns-in-Ok-clause-opened g c =
     answer_opened c.args.medium c.in-Ok.file c.in-Ok.ensures.opens c.opened_package.result c.opened_package.ensures.ok
-    (letters_of c.args.letters) c.in-Ok.ensures.letters (may_be_used (letters_of c.args.letters) (sym c.touches.ensures ∙ c.if-touches.false)) c.in-Ok.ensures.opened
+    (case_table_of c.args.letters) c.in-Ok.ensures.letters (may_be_used (case_table_of c.args.letters) (sym c.touches.ensures ∙ c.if-touches.false)) c.in-Ok.ensures.opened
 
-pub returns-in-Ok-clause-refused : goal.returns-in-Ok-clause-refused
-returns-in-Ok-clause-refused g c =
-    answer_refused c.args.medium c.in-Ok.file c.in-Ok.ensures.opens c.opened_package.result c.opened_package.ensures.err
-    (letters_of c.args.letters) c.in-Ok.ensures.letters (may_be_used (letters_of c.args.letters) (sym c.touches.ensures ∙ c.if-touches.false)) c.in-Ok.ensures.opened
+pub returns-in-Ok-clause-refused_only_if : goal.returns-in-Ok-clause-refused_only_if
+returns-in-Ok-clause-refused_only_if g c =
+    answer_refused c.args.medium c.in-Ok.file c.in-Ok.ensures.opens c.opened_package.result c.opened_package.ensures.after_error
+    (case_table_of c.args.letters) c.in-Ok.ensures.letters (may_be_used (case_table_of c.args.letters) (sym c.touches.ensures ∙ c.if-touches.false)) c.in-Ok.ensures.opened
 
 pub returns-in-Ok-clause-cause : goal.returns-in-Ok-clause-cause
-returns-in-Ok-clause-cause g c = answer_cause c.args.medium c.in-Ok.file c.in-Ok.ensures.opens c.opened_package.result c.opened_package.ensures.err
+returns-in-Ok-clause-cause g c = answer_cause c.args.medium c.in-Ok.file c.in-Ok.ensures.opens c.opened_package.result c.opened_package.ensures.after_error
 
 pub returns-in-Ok-clause-left : goal.returns-in-Ok-clause-left
-returns-in-Ok-clause-left g c = answer_left c.args.medium c.in-Ok.file c.in-Ok.ensures.opens c.opened_package.result c.opened_package.ensures.err
+returns-in-Ok-clause-left g c = answer_left c.args.medium c.in-Ok.file c.in-Ok.ensures.opens c.opened_package.result c.opened_package.ensures.after_error

@@ -1,7 +1,7 @@
 use Rattle.std.proofs.Common.{◌≡◌, ◌∙◌, ap, map}
 use Rattle.std.specs.Prelude.{string_bytes}
 use Rattle.std.specs.Rc.{rc_value}
-use Rattle.msi_meaning.specs.Calls.{table_names}
+use Rattle.msi_spec.specs.Calls.{table_names}
 use Rattle.msi_parts.proofs.Judging.{bare_names}
 use Rattle.msi_tables.specs.Held.{heading_of}
 use Rattle.msi.specs.Lists.{tables_left}

@@ -3,5 +3,5 @@ use Rattle.cfb_sectors.specs.Seeking.{Finds}
 use Rattle.msi.specs.Writers.{place_in}
 use Rattle.msi.proofs.writer.StreamWriterOver+F+MemoryMedium.seek.Goals as goal
 
-pub returns-in_default-clause-refused : goal.returns-in_default-clause-refused
-returns-in_default-clause-refused g c = (refl, subst (λ len. (n : ℕ) → Finds c.args.from len (place_in c.args.self.now) n → ⊥) c.len.ensures c.in_default.ensures)
+pub returns-in_default-clause-refused_only_if : goal.returns-in_default-clause-refused_only_if
+returns-in_default-clause-refused_only_if g c = (refl, subst (λ len. (n : ℕ) → Finds c.args.from len (place_in c.args.self.now) n → ⊥) c.len.ensures c.in_default.ensures)

@@ -1,5 +1,5 @@
 use Rattle.std.proofs.Common.{ap, sym, subst, ◌∙◌}
-use Rattle.msi_places.specs.PoolDraft.{AreChangesOf, taken_over}
+use Rattle.msi_pool_index.specs.PoolDraft.{AreChangesOf, taken_over}
 use Rattle.msi_pool.specs.PoolDraft.{AreChangesOver, adopted}
 use Rattle.msi_pool.specs.PoolState.{PoolState}
 use Rattle.msi_pool.proofs.stringpool.StringPool.make_room.Goals as goal

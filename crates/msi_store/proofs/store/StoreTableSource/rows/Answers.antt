@@ -11,13 +11,13 @@ pub returns-in-Some-clause-rows : goal.returns-in-Some-clause-rows
 returns-in-Some-clause-rows g c =
     rows_all (stored_in c.args.self.now) c.args.name.now (heading_of c.in-Some.table.now) c.rows_of_table.result
     (sym (c.table_named.ensures ∙ ap (λ ts. heading_named (map (λ t. heading_of (rc_value t)) ts) c.args.name.now) c.deref.ensures.value) ∙ ap (option_map (λ t. heading_of t.now)) c.in-Some.is)
-    c.rows_of_table.ensures.told
+    c.rows_of_table.ensures.answer
 
 pub returns-in-Some-clause-cause : goal.returns-in-Some-clause-cause
 returns-in-Some-clause-cause g c =
     own_cause (stored_in c.args.self.now) (c.rows_of_table.new.file, (stored_in c.args.self.now).1) c.args.name.now (heading_of c.in-Some.table.now) c.rows_of_table.result
     (sym (c.table_named.ensures ∙ ap (λ ts. heading_named (map (λ t. heading_of (rc_value t)) ts) c.args.name.now) c.deref.ensures.value) ∙ ap (option_map (λ t. heading_of t.now)) c.in-Some.is)
-    c.rows_of_table.ensures.told c.rows_of_table.ensures.cause c.rows_of_table.ensures.error
+    c.rows_of_table.ensures.answer c.rows_of_table.ensures.cause c.rows_of_table.ensures.errors
 
 pub returns-in-None-clause-rows : goal.returns-in-None-clause-rows
 returns-in-None-clause-rows g c tables has =

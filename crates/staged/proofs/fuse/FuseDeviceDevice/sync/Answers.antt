@@ -5,7 +5,7 @@ pub returns-in-Ok-clause-fuse : goal.returns-in-Ok-clause-fuse
 returns-in-Ok-clause-fuse g c = record {
   burns = c.blows.ensures.burns;
   blown = λ is. let blows : IsTrue c.blows.result = c.blows.ensures.blown.1 is in absurd (cc (blows, c.if-blows.false));
-  alone = λ _. record { unwritten = (g.met.D.Device.rests_keeps _ _ (c.sync-2.ensures.rests _ (g.met.D.Device.rests_refl _))).unwritten; synced = record { counted = c.sync-2.ensures.synced; others = c.sync-2.ensures.others } };
+  alone = λ _. record { unwritten = (g.met.D.Device.rests_keeps _ _ (c.sync-2.ensures.only_reads _ (g.met.D.Device.rests_refl _))).unwritten; synced = record { counted = c.sync-2.ensures.synced; others = c.sync-2.ensures.others } };
   passed = λ _ failed. absurd (cc failed);
 }
 
@@ -13,6 +13,6 @@ pub returns-in-Err-clause-fuse : goal.returns-in-Err-clause-fuse
 returns-in-Err-clause-fuse g c = record {
   burns = c.blows.ensures.burns;
   blown = λ is. let blows : IsTrue c.blows.result = c.blows.ensures.blown.1 is in absurd (cc (blows, c.if-blows.false));
-  alone = λ _. record { unwritten = (g.met.D.Device.rests_keeps _ _ (c.sync-2.ensures.rests _ (g.met.D.Device.rests_refl _))).unwritten; synced = record { counted = c.sync-2.ensures.synced; others = c.sync-2.ensures.others } };
-  passed = λ _ _. c.in-Err.ensures.fault.counted;
+  alone = λ _. record { unwritten = (g.met.D.Device.rests_keeps _ _ (c.sync-2.ensures.only_reads _ (g.met.D.Device.rests_refl _))).unwritten; synced = record { counted = c.sync-2.ensures.synced; others = c.sync-2.ensures.others } };
+  passed = λ _ _. c.in-Err.ensures.errors.counted;
 }

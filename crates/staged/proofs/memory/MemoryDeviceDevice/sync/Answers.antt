@@ -14,8 +14,8 @@ returns-in-Ok-clause-durable c = λ left may.
     (subst (λ (f : Files). MayBeLeft f (memory_calls old ++ synced c.args.which ∷ []) left) c.record_sync.ensures.first (subst (λ (cs : List Made). MayBeLeft (first_files c.record_sync.new.self) cs left) c.in-Ok.ensures.ok may))
     ∙ ap (λ (f : Files). file_of f c.args.which) (sym c.record_sync.ensures.files)
 
-pub returns-in-Ok-clause-rests : goal.returns-in-Ok-clause-rests
-returns-in-Ok-clause-rests c = λ start rests.
+pub returns-in-Ok-clause-only_reads : goal.returns-in-Ok-clause-only_reads
+returns-in-Ok-clause-only_reads c = λ start rests.
     let old = c.args.self.now in
     let new = c.record_sync.new.self in
     let did = c.record_sync.ensures in
@@ -25,14 +25,14 @@ returns-in-Ok-clause-rests c = λ start rests.
       remembers = pushed_remembers old new did.first (synced c.args.which) c.in-Ok.ensures.ok;
     })
 
-pub returns-in-Err-clause-rests : goal.returns-in-Err-clause-rests
-returns-in-Err-clause-rests c = λ start rests.
+pub returns-in-Err-clause-only_reads : goal.returns-in-Err-clause-only_reads
+returns-in-Err-clause-only_reads c = λ start rests.
     let old = c.args.self.now in
     let new = c.fault.new.self in
     let did = c.record_sync.ensures in
     let counted = c.fault.ensures.counted in
     let first : first_files new ≡ first_files old = ap first_files counted ∙ did.first in
-    let calls : memory_calls new ≡ memory_calls old = ap memory_calls counted ∙ c.in-Err.ensures.err in
+    let calls : memory_calls new ≡ memory_calls old = ap memory_calls counted ∙ c.in-Err.ensures.after_error in
     rests_then start old new rests (record {
       keeps = record { as_honest = refl; same = λ honest. ap memory_files counted ∙ did.files; unwritten = λ which. ap (λ (d : MemoryDevice). memory_writes d which) counted ∙ did.writes which; counted = omega (arith, did.failures, c.fault.ensures.risen) };
       leaves = same_leaves old new first (memory_may_leave old) (λ x may. may) calls;

@@ -18,7 +18,7 @@ invariant_of-self g c =
       small = self.small;
       room = self.room;
       covered = self.covered;
-      settled = λ honest sound. settled_still g.D.Device g.met.D.Device.counts_now _ _ (g.met.D.Device.rests_leaves _ _ (c.len.ensures.rests _ (g.met.D.Device.rests_refl _))) (same honest) (self.settled (was honest) sound);
+      settled = λ honest sound. settled_still g.D.Device g.met.D.Device.counts_now _ _ (g.met.D.Device.rests_leaves _ _ (c.len.ensures.only_reads _ (g.met.D.Device.rests_refl _))) (same honest) (self.settled (was honest) sound);
       past = λ honest sound. subst (λ (f : Files). EndsAt f.home (listed self.pages) self.len) (sym (same honest)) (self.past (was honest) sound);
     }
 
@@ -33,7 +33,7 @@ invariant_of-self-2 g c =
       small = λ page held. let there : HoldsPage [] page = subst (λ (ps : List Page). HoldsPage ps page) c.clear.ensures held in absurd (cc there);
       room = λ some. let gone : length (listed c.clear.new.self) ≡ 0 = ap (λ (ps : List Page). length ps) c.clear.ensures in absurd (omega arith);
       covered = covers_same _ _ c.clear.ensures;
-      settled = λ honest sound. settled_still g.D.Device g.met.D.Device.counts_now _ _ (g.met.D.Device.rests_leaves _ _ (c.len.ensures.rests _ (g.met.D.Device.rests_refl _))) (same honest) (self.settled (was honest) sound);
+      settled = λ honest sound. settled_still g.D.Device g.met.D.Device.counts_now _ _ (g.met.D.Device.rests_leaves _ _ (c.len.ensures.only_reads _ (g.met.D.Device.rests_refl _))) (same honest) (self.settled (was honest) sound);
       past = λ honest sound. ends_none _ _ _ c.clear.ensures (size honest);
     }
 

@@ -1,0 +1,25 @@
+use Rattle.std.proofs.Common.{◌+◌, refl, ap, sym, subst, ◌∙◌, arith}
+use Rattle.cfb_fat_runs.specs.Runs.{entry_at, AreTiled}
+use Rattle.cfb_fat_runs.specs.Tables.{entries_of}
+use Rattle.cfb_fat_runs.proofs.Edited.{more_entries}
+use Rattle.cfb_fat_runs.proofs.Splicing.{pushed, pushed_last, pushed_tiled}
+use Rattle.cfb_fat_runs.proofs.Views.{size_of}
+use Rattle.cfb_fat_runs.proofs.table.Table.append.Goals as goal
+
+pub invariant_of-self : goal.invariant_of-self
+invariant_of-self c =
+    let it = c.args.self.now in
+    let size = size_of it in
+    record {
+      tiled = subst (AreTiled 0 (it.len + 1)) (sym c.push_reserved.ensures.items) (pushed_tiled 0 it.len it.runs.items c.kind_of.result c.kind_of.ensures.right it.tiled);
+      few = omega (arith, c.requires.few, size);
+    }
+
+pub returns-clause-entries : goal.returns-clause-entries
+unfolding entries_of
+returns-clause-entries c =
+    let it = c.args.self.now in
+    let is = c.push_reserved.ensures.items in
+    more_entries it.len c.args.entry (entry_at it.len it.runs.items) (entry_at (it.len + 1) c.push_reserved.new.self.items)
+    (ap (λ l. entry_at (it.len + 1) l it.len) is ∙ pushed_last 0 it.len it.runs.items c.kind_of.result it.tiled ∙ c.kind_of.ensures.entry (it.len + 1) it.len refl)
+    (λ k less. pushed 0 it.len k it.runs.items c.kind_of.result it.tiled less (omega arith) ∙ ap (λ l. entry_at (it.len + 1) l k) (sym is))

@@ -1,9 +1,0 @@
-pub mod Live
-pub mod Strays
-pub mod Doing
-pub mod Facts
-pub mod Making
-pub mod Freeing
-pub mod Removing
-pub mod WholeRemoval
-pub mod Parents

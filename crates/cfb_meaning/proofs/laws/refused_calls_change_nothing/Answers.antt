@@ -1,5 +1,0 @@
-use Rattle.cfb_meaning.proofs.laws.refused_calls_change_nothing.Goals as goal
-use Rattle.cfb_meaning.proofs.Refusals.{refused_keeps}
-
-pub returns : goal.returns
-returns c = refused_keeps

@@ -1,4 +1,0 @@
-pub mod Owners
-pub mod LiveFile
-pub mod Kept
-pub mod Held

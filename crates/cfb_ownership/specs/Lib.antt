@@ -1,0 +1,4 @@
+pub mod Owners
+pub mod LiveFile
+pub mod LiveInvariant
+pub mod Held

@@ -1,0 +1,109 @@
+use Rattle.std.proofs.Common.{◌≡◌, ◌*◌, ◌-◌, ◌<◌, ◌≤◌, length, inl, inr, ap, sym, subst, ◌∙◌, ⊎_elim, arith}
+use Rattle.std.specs.Prelude.{slice_get, Some}
+use Rattle.std.proofs.lemmas.Option.{slice_get_within}
+use Rattle.cfb_directory.specs.Entries.{entries_in}
+use Rattle.cfb_directory.specs.Views.{entries_held}
+use Rattle.cfb_tree_edits.proofs.Standing.{stands_of}
+use Rattle.cfb_mini.specs.LinkViews.{minis_of}
+use Rattle.cfb_mini.specs.Minis.{minis_for}
+use Rattle.cfb_mini.specs.Views.{allocator_of, directory_of}
+use Rattle.cfb_chain_io.proofs.GoingOn.{goes_cause, goes_then}
+use Rattle.cfb_sectors.specs.Header.{mini_cutoff}
+use Rattle.cfb_tree.specs.Directory.{Entry}
+use Rattle.cfb_tree.specs.EntryViews.{entry_in}
+use Rattle.cfb_tree.proofs.OneContent.{Some_same}
+use Rattle.cfb_stream_writes.specs.Streams.{resized}
+use Rattle.cfb_stream_writes.proofs.Links.{entries_count}
+use Rattle.cfb_stream_writes.proofs.LongBytes.{length-resized}
+use Rattle.cfb_stream_writes.proofs.Placed.{entry_moved, entry_of, found_at, placed_minis, placed_strays, stream_placed}
+use Rattle.cfb_stream_writes.proofs.ShortAt.{short_below, short_owned, short_room, size_there}
+use Rattle.cfb_stream_writes.proofs.Stretching.{lacks_short, minis_has}
+use Rattle.cfb_stream_writes.proofs.short_lengths.resize_short_stream.Goals as goal
+
+pub returns-then-id-dir_entries-clause-refused_only_if : goal.returns-then-id-dir_entries-clause-refused_only_if
+returns-then-id-dir_entries-clause-refused_only_if g c = λ wrong letters tree path content at are.
+    let it = c.args.mini.now in
+    let same : entries_in c.dir_entries.result.now ≡ entries_held (directory_of it) = c.dir_entries.ensures ∙ ap entries_held c.directory-2.ensures in
+    let size = entries_count c.dir_entries.result.now (entries_held (directory_of it)) same in
+    let past = c.if-id-dir_entries.true in
+    let within = slice_get_within (entries_held (directory_of it)) c.args.id _ (found_at letters it tree path c.args.id content at) in
+    omega (arith, size, past, within)
+
+pub returns-in-Err-clause-refused_only_if : goal.returns-in-Err-clause-refused_only_if
+returns-in-Err-clause-refused_only_if g c = λ wrong letters tree path content at are.
+    let it = c.args.mini.now in
+    let links = c.args.links.now in
+    let id = c.args.id in
+    c.in-Err.ensures.refused_only_if wrong at.means.who id (stands_of letters it tree at.means) (short_owned letters it tree path id content at links are)
+
+pub returns-in-Err-set_place-clause-refused_only_if : goal.returns-in-Err-set_place-clause-refused_only_if
+returns-in-Err-set_place-clause-refused_only_if g c = λ wrong letters tree path content at are.
+    let it = c.args.mini.now in
+    let links = c.args.links.now in
+    let id = c.args.id in
+    let was = entry_of letters it tree path id content at in
+    let told : slice_get (entries_held (directory_of it)) id ≡ Some (entry_in c.dir_entry.result.now) = ap (λ d. slice_get (entries_held d) id) (sym c.directory-3.ensures) ∙ c.dir_entry.ensures in
+    let same : was.entry ≡ entry_in c.dir_entry.result.now = Some_same (sym (found_at letters it tree path id content at) ∙ told) in
+    let size = ap (λ (x : Entry). x.size) same in
+    let below = subst (λ n. n < mini_cutoff) size (short_below letters it tree path id content at links are) in
+    let houses = c.in_default.ensures.stretched at.means.who id was.entry content (stands_of letters it tree at.means) was.has size below c.requires (short_owned letters it tree path id content at links are) in
+    c.in-Err-set_place.ensures.refused_only_if wrong houses.0.moves.now.sectors houses.0.moves.stands.owners (slice_get_within _ id was.entry (entry_moved letters it tree path id content at c.stretch_short.new.mini houses.0.moves))
+
+pub returns-in-Err-set_place-clause-error_contract : goal.returns-in-Err-set_place-clause-error_contract
+returns-in-Err-set_place-clause-error_contract g c =
+    let a = allocator_of c.args.mini.now in
+    let m = allocator_of c.stretch_short.new.mini in
+    let b = allocator_of c.set_place.new.mini in
+    let told = c.in-Err-set_place.ensures in
+    let live = c.in_default.ensures.error_contract.live in
+    record {
+      live = tt;
+      failed = λ failed. absurd (let before = live.0 in cc);
+      after = inl told.when_failed;
+      cause = goes_cause a m b c.in-Err-set_place.error c.stretch_short.ensures.invariants live.1 told.cause;
+      fault = ⊎_elim (λ fault. inl fault) (λ place. inr (inl place)) told.errors;
+    }
+
+pub returns-clause-resized : goal.returns-clause-resized
+returns-clause-resized g c = λ letters tree path content at are.
+    let it = c.args.mini.now in
+    let links = c.args.links.now in
+    let id = c.args.id in
+    let len = c.args.len in
+    let mid = c.stretch_short.new.mini in
+    let new = c.set_place.new.mini in
+    let links3 = c.stretch_short.new.links in
+    let was = entry_of letters it tree path id content at in
+    let told : slice_get (entries_held (directory_of it)) id ≡ Some (entry_in c.dir_entry.result.now) = ap (λ d. slice_get (entries_held d) id) (sym c.directory-3.ensures) ∙ c.dir_entry.ensures in
+    let same : was.entry ≡ entry_in c.dir_entry.result.now = Some_same (sym (found_at letters it tree path id content at) ∙ told) in
+    let size = ap (λ (x : Entry). x.size) same in
+    let below = subst (λ n. n < mini_cutoff) size (short_below letters it tree path id content at links are) in
+    let houses = c.in_default.ensures.stretched at.means.who id was.entry content (stands_of letters it tree at.means) was.has size below c.requires (short_owned letters it tree path id content at links are) in
+    let did = c.in_default-set_place.ensures in
+    let start = c.start_sector_id.result in
+    let has = houses.0.has (record did.placed.entry { start = start; size = len }) c.start_sector_id.ensures (sym (length-resized content len)) in
+    let goes = c.set_place.ensures.invariants in (
+      stream_placed letters it mid new tree path id content (resized len content) at houses.0.moves start len did.placed goes did.not_failed has,
+      placed_minis letters it mid new tree path id content (resized len content) at houses.0.moves start len did.placed goes did.not_failed has links3 houses.1 c.requires,
+      placed_strays letters it mid new tree path id content (resized len content) at houses.0.moves start len did.placed goes did.not_failed has,
+    )
+
+pub returns-clause-invariants : goal.returns-clause-invariants
+returns-clause-invariants g c = goes_then _ _ _ c.stretch_short.ensures.invariants c.set_place.ensures.invariants
+
+pub returns-in-Err-clause-full_only_if : goal.returns-in-Err-clause-full_only_if
+returns-in-Err-clause-full_only_if g c = λ wrong live letters tree path content at are.
+    let it = c.args.mini.now in
+    let id = c.args.id in
+    let was = entry_of letters it tree path id content at in
+    let told : slice_get (entries_held (directory_of it)) id ≡ Some (entry_in c.dir_entry.result.now) = ap (λ d. slice_get (entries_held d) id) (sym c.directory-3.ensures) ∙ c.dir_entry.ensures in
+    let same : was.entry ≡ entry_in c.dir_entry.result.now = Some_same (sym (found_at letters it tree path id content at) ∙ told) in
+    let size = size_there letters it tree path id content at ∙ ap (λ (x : Entry). x.size) same in
+    let lacks = c.in-Err.ensures.full_only_if wrong live in
+    let had = length (minis_of c.args.links.now) in
+    let room : length content ≤ 64 * had = subst (λ n. n ≤ 64 * had) (sym (size_there letters it tree path id content at)) (short_room letters it tree path id content at c.args.links.now are) in
+    let some = minis_has (length content) had room in
+    lacks_short it (length content) c.args.len (minis_for c.args.len - had) c.requires (λ few. subst (λ n. n < c.args.len) (sym size) lacks.0) (omega (arith, some)) (lacks.1 at.means.who (stands_of letters it tree at.means))
+
+pub returns-in-Err-set_place-clause-invariants : goal.returns-in-Err-set_place-clause-invariants
+returns-in-Err-set_place-clause-invariants g c = goes_then _ _ _ c.stretch_short.ensures.invariants c.set_place.ensures.invariants

@@ -1,0 +1,9 @@
+pub mod Live
+pub mod Orphans
+pub mod LiveTreeRules
+pub mod Facts
+pub mod Making
+pub mod Freeing
+pub mod Removing
+pub mod WholeRemoval
+pub mod Parents

@@ -1,6 +1,0 @@
-use Rattle.std.proofs.Common.{◌∙◌, sym}
-use Rattle.msi_making.proofs.HeldTests.{no_place}
-use Rattle.msi_making.proofs.placing.place_of.Goals as goal
-
-pub returns-in-None : goal.returns-in-None
-returns-in-None c = no_place _ c.args.tables.now (sym c.in-None.is ∙ c.first_behind.ensures)

@@ -1,6 +1,0 @@
-use Rattle.std.proofs.Common.{◌∙◌}
-use Rattle.msi_making.proofs.HeldTests.{named_so}
-use Rattle.msi_making.proofs.testing.has_name.Goals as goal
-
-pub returns : goal.returns
-returns c = c.are_any_named.ensures ∙ named_so c.args.columns.now c.args.name.now

@@ -1,5 +1,0 @@
-use Rattle.msi_meaning.proofs.Fitting.{fit_pool_is_writable}
-use Rattle.msi_meaning.proofs.laws.fit_pools_can_be_written.Goals as goal
-
-pub returns : goal.returns
-returns c = fit_pool_is_writable

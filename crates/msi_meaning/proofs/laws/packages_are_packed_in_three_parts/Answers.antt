@@ -1,5 +1,0 @@
-use Rattle.msi_meaning.proofs.Splitting.{joined, parted}
-use Rattle.msi_meaning.proofs.laws.packages_are_packed_in_three_parts.Goals as goal
-
-pub returns : goal.returns
-returns c = λ letters tree P. (parted letters tree P, λ parts. joined letters tree P parts.0 parts.1 parts.2)

@@ -1,5 +1,0 @@
-use Rattle.msi_meaning.proofs.OpenedIs.{opened_is}
-use Rattle.msi_meaning.proofs.laws.packed_trees_are_opened.Goals as goal
-
-pub returns : goal.returns
-returns c = λ letters tree P packs may. opened_is letters tree P packs may

@@ -1,5 +1,0 @@
-use Rattle.msi_meaning.proofs.SoundAnyway.{sound_anyway, sound_so}
-use Rattle.msi_meaning.proofs.laws.sound_packages_are_sound_in_parts.Goals as goal
-
-pub returns : goal.returns
-returns c = λ letters tree P packs. (sound_anyway letters tree P packs, sound_so letters tree P packs)

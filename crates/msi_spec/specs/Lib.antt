@@ -1,0 +1,11 @@
+pub mod Package
+pub mod Opening
+pub mod Sound
+pub mod Calls
+pub mod Streams
+pub mod Split
+pub mod Known
+pub mod Uses
+pub mod SoundParts
+pub mod RoundTrips
+pub mod Writable

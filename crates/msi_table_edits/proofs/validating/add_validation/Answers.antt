@@ -1,0 +1,15 @@
+use Rattle.std.proofs.Common.{subst}
+use Rattle.cfb.specs.Views.{file_case_table}
+use Rattle.msi_row_edits.specs.Edited.{EditFullOnlyWithoutRoom}
+use Rattle.msi_store.specs.Stores.{file_in}
+use Rattle.msi_table_edits.specs.Making.{ChangesTableSet}
+use Rattle.msi_table_edits.specs.Validating.{Validates}
+use Rattle.msi_table_edits.proofs.validating.add_validation.Goals as goal
+
+pub returns-clause-makes : goal.returns-clause-makes
+returns-clause-makes g c =
+    subst (λ before. ChangesTableSet (λ P Q answer. Validates (file_case_table (file_in c.args.store.now)) P Q answer) c.add_with-back.result.1 c.args.store.now c.add_with-back.new.store before c.add_with-back.result.0) c.replace.ensures.value c.add_with-back.ensures.makes
+
+pub returns-clause-full_only_if : goal.returns-clause-full_only_if
+returns-clause-full_only_if g c =
+    subst (λ before. EditFullOnlyWithoutRoom (λ P Q answer. Validates (file_case_table (file_in c.args.store.now)) P Q answer) c.add_with-back.result.1 c.args.store.now c.add_with-back.new.store before) c.replace.ensures.value c.add_with-back.ensures.full_only_if
