@@ -56,7 +56,7 @@ module _ (v : Version) (letters : CaseTable) (old now : List ℕ) (is : now ≡ 
   behind = is ∙ over_front old (new_file v) (some_bytes v)
 
   pub means_new : meaning.BytesMeanTree letters now empty_tree
-  means_new = subst (λ bs. meaning.Means letters bs empty_tree) (sym behind) (new_means v (drop (length (new_file v)) old) letters)
+  means_new = subst (λ bs. meaning.BytesMeanTree letters bs empty_tree) (sym behind) (new_means v (drop (length (new_file v)) old) letters)
 
   pub opens_new : meaning.IsOpenable letters now
   opens_new = subst (λ bs. meaning.IsOpenable letters bs) (sym behind) (new_opens v (drop (length (new_file v)) old) letters)
@@ -98,7 +98,7 @@ module _ {F : Type 0} {g : Ghosts F} where
             let told = opened (so is) in
             let meant = told.means (told.sound.1 (sound_new v letters (g.bytes old) (g.bytes mid) (written is) few)) in
             let here : meaning.BytesMeanTree letters (g.bytes mid) meant.0 =
-            subst (λ bs. meaning.Means letters bs meant.0) (opens.bytes (so is)) (subst (λ n. meaning.Means n (bytes_of (allocator_of (mini_of it))) meant.0) named (meant_bytes it meant.0 meant.1)) in
+            subst (λ bs. meaning.BytesMeanTree letters bs meant.0) (opens.bytes (so is)) (subst (λ n. meaning.BytesMeanTree n (bytes_of (allocator_of (mini_of it))) meant.0) named (meant_bytes it meant.0 meant.1)) in
             let one = tree_unique letters (g.bytes mid) meant.0 empty_tree here (means_new v letters (g.bytes old) (g.bytes mid) (written is)) in
             subst (λ (t : Tree). FileMeansTree it t) one meant.1;
       }

@@ -50,7 +50,7 @@ module _ {F : Type 0} {g : Ghosts F} where
   pub means_kept : (old new : CompoundFile F g) (tree : Tree) → FileKeeps old new → FileMeansTree old tree → FileMeansTree new tree
   means_kept old new tree k m = record {
     sound = k.sound ∙ m.sound;
-    live = subst (λ l. live.MeansLive l (mini_of new) tree) (sym k.letters) (means_stays (mini_of old) (mini_of new) k.mini (file_case_table old) tree m.live);
+    live = subst (λ l. live.LiveFileMeansTree l (mini_of new) tree) (sym k.letters) (means_stays (mini_of old) (mini_of new) k.mini (file_case_table old) tree m.live);
   }
 
   pub means_read : (old new : CompoundFile F g) (tree : Tree) → OnlyReadsFile old new → FileMeansTree old tree → FileMeansTree new tree

@@ -89,7 +89,7 @@ module _ {F : Type 0} {g : Ghosts F} (old new : CompoundFile F g) (k : MiniKeeps
   pub means_published : sound_of new ≡ sound_of old → has_failed_here (allocator_of (mini_of new)) ≡ false → (tree : Tree) → FileMeansTree old tree → FileMeansTree new tree
   means_published sound alive tree m = record {
     sound = sound ∙ m.sound;
-    live = subst (λ l. live.MeansLive l (mini_of new) tree) (sym letters) (means_below (mini_of old) (mini_of new) k same alive (file_case_table old) tree m.live);
+    live = subst (λ l. live.LiveFileMeansTree l (mini_of new) tree) (sym letters) (means_below (mini_of old) (mini_of new) k same alive (file_case_table old) tree m.live);
   }
 
   pub holds_published : has_failed_here (allocator_of (mini_of new)) ≡ false → (tree : Tree) → FileHoldsTree old tree → FileHoldsTree new tree

@@ -134,7 +134,7 @@ module _ {F : Type 0} {g : Ghosts F} (it : CompoundFile F g) (path : Path) (tree
       let lies = w.links was.entry found in
       let here = links_read it path tree id content means_written w.at was.entry found (links_held it) lies.0 lies.1 in
       let size = size_meant it path tree id content means_written w.at was.entry found (links_held it) lies.0 lies.1 in
-      record { lies = subst (λ n. lower.HasContent (mini_of it) (links_held it) n content) size here; ahead = w.ahead }
+      record { lies = subst (λ n. lower.SectorsHaveContent (mini_of it) (links_held it) n content) size here; ahead = w.ahead }
 
 module _ {F : Type 0} {g : Ghosts F} (old new : CompoundFile F g) (path : Path) (tree : Tree) (id : ℕ) (content : List ℕ) (w : StreamIsWritten old path tree id content) where
   -- LAW: a stream stays where each owner has what it had

@@ -12,7 +12,7 @@ use Rattle.cfb.specs.declared.options.OpenOptions.{OpenOptions}
 abbrev pub validation_asked : OpenOptions → Validation
 validation_asked it = it.validation
 
--- under which letter table ([MS-CFB] 2.6.4)
+-- under which case table ([MS-CFB] 2.6.4)
 abbrev pub case_table_asked : OpenOptions → CaseTable
 case_table_asked it = case_table_of it.letters
 

@@ -19,7 +19,7 @@ module _ {F : Type 0} {g : Ghosts F} where
     pub medium : medium_in new ≡ medium_in old
     pub rests : OnlyReadsFile old new
 
-  -- The bytes are published, so that a stop leaves these alone. The file has them yet, is live, and means, holds and shows the
+  -- The bytes are published, so that a crash leaves these alone. The file has them yet, is live, and means, holds and shows the
   -- trees that it did.
   pub record Publishes (has_published : F → List ℕ → Type 0) (old new : CompoundFile F g) : Type 0 where
     pub published : IsTrue (is_honest (allocator_of (mini_of old))) → has_published (medium_in new) (bytes_of (allocator_of (mini_of old)))

@@ -1,4 +1,4 @@
--- As which reader a file is opened, and under which letter table.
+-- As which reader a file is opened, and under which case table.
 use Rattle.std.specs.Prelude.{◌≡◌, ◌⊎◌, ℕ}
 use Rattle.cfb_medium.specs.declared.medium.ReadMedium.{Ghosts}
 use Rattle.cfb_sectors.specs.declared.validation.Validation.{Validation}
@@ -9,7 +9,7 @@ use Rattle.cfb.specs.Views.{file_case_table, most_ahead_of, validation_of}
 use Rattle.cfb.specs.declared.compound_file.CompoundFile.{CompoundFile}
 use Rattle.cfb.specs.declared.opening.Reader.{Reader}
 
--- the letter table under which he compares names ([MS-CFB] 2.6.4)
+-- the case table under which he compares names ([MS-CFB] 2.6.4)
 abbrev pub letters_by : Reader → CaseTable
 letters_by it = case_table_of it.letters
 

@@ -27,7 +27,7 @@ module _ {F : Type 0} {g : Ghosts F} where
   abbrev pub mini_of : CompoundFile F g → MiniAllocator F g
   mini_of it = it.mini
 
-  -- the letter table under which names are compared ([MS-CFB] 2.6.4)
+  -- the case table under which names are compared ([MS-CFB] 2.6.4)
   abbrev pub file_case_table : CompoundFile F g → CaseTable
   file_case_table it = letter.case_table_of it.letters
 
@@ -58,7 +58,7 @@ module _ {F : Type 0} {g : Ghosts F} where
   abbrev pub most_ahead_of : CompoundFile F g → ℕ
   most_ahead_of it = most_of (ahead_held it)
 
-  -- it was only read: of its layers, letter table, reader and soundness all is as it was, and how many bytes it reads ahead
+  -- it was only read: of its layers, case table, reader and soundness all is as it was, and how many bytes it reads ahead
   pub record OnlyReadsFile (old new : CompoundFile F g) : Type 0 where
     pub mini : mini.OnlyReadsMini (mini_of old) (mini_of new)
     pub letters : file_case_table new ≡ file_case_table old

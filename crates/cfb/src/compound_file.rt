@@ -68,7 +68,7 @@ impl<F: ReadMedium> CompoundFile<F> {
         self.is_sound
     }
 
-    /// The letter table under which names are compared ([MS-CFB] 2.6.4).
+    /// The case table under which names are compared ([MS-CFB] 2.6.4).
     pub fn letters(&self) -> &CaseMapper
         ensures { case_table_of result.now ≡ file_case_table self.now }
     {
@@ -233,5 +233,12 @@ impl<F: Medium> CompoundFile<F> {
         ensures { result ≡ has_failed (allocator_of (mini_of self.now)) }
     {
         self.mini.has_failed()
+    }
+
+    /// Whether a fault has left the medium itself in a state in which every call is refused, and `roll_back` with them.
+    pub fn has_medium_failed(&self) -> bool
+        ensures { result ≡ F.failed (medium_of (allocator_of (mini_of self.now))) }
+    {
+        self.mini.inner().has_failed()
     }
 }

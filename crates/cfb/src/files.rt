@@ -33,7 +33,7 @@ impl OpenOptions {
         }
     }
 
-    /// Opens the file at a path of the disk, to be read and changed. It is changed in its place: a stop may leave anything of it.
+    /// Opens the file at a path of the disk, to be read and changed. It is changed in its place: a crash may leave anything of it.
     /// Errors are those of `open`, and `Device` also where it may not be written, or another program has it.
     pub fn open_rw<R: Files<File = File>>(
         self,
@@ -91,7 +91,7 @@ impl OpenOptions {
     }
 }
 
-/// Opens the file at a path of the disk, to be read, as `OpenOptions::new` asks: as a lenient reader, under the letter table of
+/// Opens the file at a path of the disk, to be read, as `OpenOptions::new` asks: as a lenient reader, under the case table of
 /// ASCII. Errors are those of `OpenOptions::open`.
 pub fn open<R: Files<File = File>>(
     rt: &R,
@@ -129,7 +129,7 @@ pub fn open_rw<R: Files<File = File>>(
     }
 }
 
-/// Makes a new file of version 4 at a path of the disk, under the letter table of ASCII. Errors are those of
+/// Makes a new file of version 4 at a path of the disk, under the case table of ASCII. Errors are those of
 /// `OpenOptions::create`.
 pub fn create<R: Files<File = File>>(
     rt: &R,

@@ -25,7 +25,7 @@ use std::alloc::Global;
 pub(crate) const BUFFER: usize = 65536;
 
 impl<F: ReadMedium> CompoundFile<F> {
-    /// Opens a compound file, whose names are compared under the letter table. `InvalidData` exactly where the bytes mean no
+    /// Opens a compound file, whose names are compared under the case table. `InvalidData` exactly where the bytes mean no
     /// tree, whatever bytes its streams have ([MS-CFB] 2). It takes time and memory by the length of tables and directory, and
     /// judges once whether the file is sound. At most 65536 bytes of a stream are read ahead at once. The other errors are
     /// `Memory` and `Device`, and `Failed` of a medium that has failed. A refusal gives the medium back.
@@ -75,7 +75,7 @@ impl<F: ReadMedium> CompoundFile<F> {
     }
 }
 
-// As which reader a file is opened, under which letter table, and how much of a stream is read at once.
+// As which reader a file is opened, under which case table, and how much of a stream is read at once.
 #[derive(Drop)]
 pub(crate) struct Reader {
     pub(crate) letters: CaseMapper,

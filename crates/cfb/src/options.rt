@@ -20,7 +20,7 @@ use cfb_sectors::Validation;
 use cfb_tree::CaseMapper;
 use std::alloc::Global;
 
-/// How a file is opened: as which reader, under which letter table, and how many bytes of a stream are read at once.
+/// How a file is opened: as which reader, under which case table, and how many bytes of a stream are read at once.
 #[derive(Drop)]
 pub struct OpenOptions {
     pub(crate) validation: Validation,
@@ -31,7 +31,7 @@ pub struct OpenOptions {
 impl OpenOptions {
     ghost use Rattle.cfb.specs.OptionViews.{case_table_asked, most_asked, validation_asked};
 
-    /// A lenient reader, under the letter table of ASCII, who reads 65536 bytes of a stream at once. The one error is `Memory`.
+    /// A lenient reader, under the case table of ASCII, who reads 65536 bytes of a stream at once. The one error is `Memory`.
     pub fn new(alloc: Global) -> Result<OpenOptions, Error>
         ensures letters { IfOk result (λ it. ReplaceAlike (case_table_asked it) ascii_letters) }
         ensures lenient { IfOk result (λ it. validation_asked it ≡ Permissive) }
@@ -84,7 +84,7 @@ impl OpenOptions {
         }
     }
 
-    /// Compares names under another letter table ([MS-CFB] 2.6.4).
+    /// Compares names under another case table ([MS-CFB] 2.6.4).
     pub fn case_mapper(self, letters: CaseMapper) -> OpenOptions
         ensures letters { case_table_asked result ≡ case_table_of letters }
         ensures validation { validation_asked result ≡ validation_asked self }
@@ -130,7 +130,7 @@ impl OpenOptions {
         open_as(alloc, medium, letters, validation, limit)
     }
 
-    /// Makes a new file of version 4 in a medium, as `CompoundFile::create` does, under the letter table that was asked for. Every
+    /// Makes a new file of version 4 in a medium, as `CompoundFile::create` does, under the case table that was asked for. Every
     /// reader takes it, a strict one too.
     pub fn create_with<F: Medium>(
         self,

@@ -35,10 +35,10 @@ impl<F: Medium> CompoundFile<F> {
         }
     }
 
-    /// Publishes the bytes, by a commit of the medium: after `Ok` a stop leaves these alone, and the file means what it meant. A
-    /// stop during the call, or after an error, leaves what one might have left before it, or the bytes. `Failed` after an
+    /// Publishes the bytes, by a commit of the medium: after `Ok` a crash leaves these alone, and the file means what it meant. A
+    /// crash during the call, or after an error, leaves what one might have left before it, or the bytes. `Failed` after an
     /// earlier fault, before all else, and then nothing is done; the other errors are `Memory` and `Device`, and after them it
-    /// has failed. No other call of a file adds to what a stop may leave. A file that isn't sound publishes nothing.
+    /// has failed. No other call of a file adds to what a crash may leave. A file that isn't sound publishes nothing.
     pub fn commit(&mut self) -> Result<(), Error>
         ensures publishes { OnOk result (sound_of self.old ≡ true
             → Publishes F.has_published self.old self.new) }

@@ -17,10 +17,10 @@ impl<F: Medium> CompoundFile<F> {
     ghost use Rattle.cfb.specs.Removing.{GivesUpStream};
     ghost use Rattle.cfb.specs.Views.{mini_of};
 
-    /// Removes the stream at a path; its sectors are free then, but for one that the directory may take. `Failed` after an earlier
-    /// fault, `InvalidData` where the file isn't sound; then `InvalidInput` where the path leads above the root, `NotFound` where no object is there,
-    /// `InvalidInput` where that is a storage. The other errors are `Memory` and `Device`. After an error nothing is changed, or
-    /// the file has failed ([MS-CFB] 2.6.3).
+    /// Removes the stream at a path; its sectors are free then, but for one that the directory may take. `Failed` after an earlier fault,
+    /// `InvalidData` where the file isn't sound; then `InvalidInput` where the path leads above the root, `NotFound` where no object is
+    /// there, `InvalidInput` where that is a storage. The other errors are `Memory` and `Device`. After an error nothing is changed, or the
+    /// file has failed ([MS-CFB] 2.6.3).
     pub fn remove_stream(&mut self, path: &str) -> Result<(), Error>
         ensures tree_rule { FollowsTreeRules (names_in path.now)
             (λ names. remove_stream names) result self.old
@@ -63,10 +63,9 @@ impl<F: Medium> CompoundFile<F> {
         cfb_tree_edits::remove_storage(self.alloc, &mut self.mini, &self.letters, path)
     }
 
-    /// Removes the storage at a path with all that it holds; the root is only emptied. No sector of its
-    /// streams stays in use without an owner. `InvalidInput` where a stream is at the path. After the first change each error leaves the file failed. All else
-    /// is as for `remove_stream`. It keeps the way to the object that was removed last, and goes on from there ([MS-CFB] 2.6.2 to
-    /// 2.6.4).
+    /// Removes the storage at a path with all that it holds; the root is only emptied. No sector of its streams stays in use without an
+    /// owner. `InvalidInput` where a stream is at the path. After the first change each error leaves the file failed. All else is as for
+    /// `remove_stream`. It keeps the way to the object that was removed last, and goes on from there ([MS-CFB] 2.6.2 to 2.6.4).
     pub fn remove_storage_all(&mut self, path: &str) -> Result<(), Error>
         ensures tree_rule { FollowsTreeRules (names_in path.now)
             (λ names. remove_storage_all names) result self.old

@@ -97,7 +97,7 @@ impl<F: Medium> CompoundFile<F> {
     }
 
     /// Goes back to the bytes that were published last, also after a fault: what was changed since is gone, and all is read again,
-    /// by the reader who opened the file. `InvalidInput` where the medium doesn't survive a stop, `Failed` where the medium has
+    /// by the reader who opened the file. `InvalidInput` where the medium doesn't survive a crash, `Failed` where the medium has
     /// failed, `Memory` and `Device`: then all is as it was, or the file has failed, and may be rolled back again. `InvalidData`
     /// where the reader can't open the published bytes: then, too. Nothing is written, and nothing is published.
     pub fn roll_back(&mut self) -> Result<(), Error>

@@ -1,11 +1,14 @@
 //! The run of commands on a package, and what is answered.
+ghost use Rattle.installer.specs.RepliesOf.{reply_of};
+ghost use Rattle.std.specs.Prelude.{⊤, [], map};
+
 use crate::failures::failure_of;
 use crate::files;
 use crate::progress::Progress;
 use crate::sessions::run_commands;
 use cfb_medium::Error;
 use installer::{Answer, Command, answer_text};
-use installer_runs::{Ending as Ended, Listener};
+use installer_runs::{Ending as Ended, Listener, Until};
 use package_files::{Failure, Faults, Found, Names, Trouble, cut_log, look_at_log};
 use package_views::{is_signed_at, is_sound_at, why_refused};
 use serde_json::Value as Json;
@@ -20,8 +23,19 @@ use std::time::Clock;
 pub(crate) enum Ending {
     /// All was done.
     Done,
-    /// A command was refused by a rule.
-    Refused,
+    /// A command was refused by a rule: the first so.
+    Refused(Error),
+}
+
+/// How commands are run.
+#[derive(Clone, Copy, Debug)]
+pub(crate) struct Manner {
+    /// Where the run ends.
+    pub until: Until,
+    /// Whether no notes are told.
+    pub is_quiet: bool,
+    /// Whether the commands are the program's own, made of one word: then none of them is spoken of.
+    pub is_own: bool,
 }
 
 /// Runs commands on the package of two files, prints their answers, and shows how far it has come. The log is made by the first commit.
@@ -30,30 +44,43 @@ pub(crate) fn run<R: Files<File = File> + AllocGlobal + Clock, O: Write, E: Writ
     rt: &R,
     names: &Names,
     commands: &[Command],
+    manner: Manner,
     out: &mut O,
     progress: &mut Progress<'_, R, E>,
-    is_quiet: bool,
 ) -> Result<Ending, Failure> {
     let found = files::look_to_commit(rt, names)?;
     let faults = Faults::new();
     let device = files::open(rt, names, &faults)?;
     let mut answers = Answers::new(rt.alloc(), names.named(), commands, out, progress);
-    match run_commands(rt.alloc(), device, commands, &mut answers) {
-        Ok(Ended::Whole) => {}
+    let ended = run_commands(rt.alloc(), device, commands, manner.until, &mut answers);
+    match ended {
+        Ok(Ended::Whole | Ended::Stopped) => {}
         Ok(Ended::Unopened(error)) => return Err(why_no_session(rt, names, error)),
         Ok(Ended::Cut) | Err(_) => answers.meet(Failure::Memory),
     }
     if found == Found::Open || has_commit(commands) {
         cut_log(rt, names);
     }
-    let (ending, heard) = (answers.ending(), answers.heard);
-    if !is_quiet {
-        tell_notes(rt, names, heard, progress.err());
+    let (ending, heard, done) = (answers.ending(), answers.heard, answers.done);
+    if ended == Ok(Ended::Stopped) && !manner.is_own {
+        tell_stopped(names, done, commands.len(), progress.err());
+    }
+    if !manner.is_quiet {
+        tell_notes(rt, names, heard, !manner.is_own, progress.err());
     }
     match ending {
         Ok(ending) => Ok(ending),
         Err(failure) => Err(files::why_fault(rt, names, &faults, failure)),
     }
+}
+
+// Tells that no command was run behind one that was refused.
+fn tell_stopped<E: Write>(names: &Names, done: usize, total: usize, err: &mut E) {
+    let named = names.named();
+    let _ = writeln!(
+        err,
+        "msidb: {named}: stopped behind command {done} of {total}, which was refused"
+    );
 }
 
 // Whether one of the commands commits.
@@ -136,6 +163,7 @@ fn tell_notes<R: Files<File = File> + AllocGlobal, E: Write>(
     rt: &R,
     names: &Names,
     heard: Heard,
+    tells_changes: bool,
     err: &mut E,
 ) {
     let named = names.named();
@@ -151,7 +179,7 @@ fn tell_notes<R: Files<File = File> + AllocGlobal, E: Write>(
             "msidb: {named}: tables are made and dropped only where there is a table _Validation; `msidb adopt --validation` makes a copy that has one"
         );
     }
-    if heard.changes > 0 {
+    if heard.changes > 0 && tells_changes {
         let count = heard.changes;
         let noun = if count == 1 { "change" } else { "changes" };
         let verb = if count == 1 { "is" } else { "are" };
@@ -178,8 +206,8 @@ struct Answers<'a, 'b, O, R, E> {
     heard: Heard,
     out: &'a mut O,
     progress: &'a mut Progress<'b, R, E>,
-    // A command was refused by a rule.
-    has_refusal: bool,
+    // Why the first command that a rule refused was.
+    refusal: Option<Error>,
     // The first failure.
     failure: Option<Failure>,
     // An answer couldn't be printed, so none is printed any more.
@@ -187,6 +215,9 @@ struct Answers<'a, 'b, O, R, E> {
 }
 
 impl<'a, 'b, O: Write, R: Clock, E: Write> Listener for Answers<'a, 'b, O, R, E> {
+    // No clause says what is printed.
+    ghost hears = { λ _ _ _. ⊤ };
+
     // Prints the answers of a slice.
     fn hear(&mut self, answers: &[Answer]) {
         for answer in answers {
@@ -214,13 +245,13 @@ impl<'a, 'b, O: Write, R: Clock, E: Write> Listener for Answers<'a, 'b, O, R, E>
         }
         let _ = writeln!(
             self.progress.err(),
-            "; the command `{{\"op\":\"set_codepage\",\"id\":65001}}` takes all texts"
+            "; the command `{{\"op\":\"set_codepage\",\"id\":65001}}` takes all texts of tables, and `{{\"op\":\"set_summary\",\"field\":\"codepage\",\"value\":65001}}` those of the summary"
         );
     }
 }
 
 // A text as JSON has it.
-fn quoted(alloc: Global, text: &str) -> Result<String, AllocError> {
+pub(crate) fn quoted(alloc: Global, text: &str) -> Result<String, AllocError> {
     Json::String(String::from_str(alloc, text)?).to_string(alloc)
 }
 
@@ -240,7 +271,7 @@ impl<'a, 'b, O: Write, R: Clock, E: Write> Answers<'a, 'b, O, R, E> {
             heard: Heard::default(),
             out,
             progress,
-            has_refusal: false,
+            refusal: None,
             failure: None,
             is_cut: false,
         }
@@ -250,7 +281,7 @@ impl<'a, 'b, O: Write, R: Clock, E: Write> Answers<'a, 'b, O, R, E> {
     fn note(&mut self, answer: &Answer) {
         match answer {
             Answer::Refused(error) if is_fault(*error) => self.meet(failure_of(*error)),
-            Answer::Refused(_) => self.has_refusal = true,
+            Answer::Refused(error) if self.refusal.is_none() => self.refusal = Some(*error),
             _ => {}
         }
     }
@@ -275,10 +306,10 @@ impl<'a, 'b, O: Write, R: Clock, E: Write> Answers<'a, 'b, O, R, E> {
 
     // A failure comes before a refusal.
     fn ending(&self) -> Result<Ending, Failure> {
-        match self.failure {
-            Some(failure) => Err(failure),
-            None if self.has_refusal => Ok(Ending::Refused),
-            None => Ok(Ending::Done),
+        match (self.failure, self.refusal) {
+            (Some(failure), _) => Err(failure),
+            (None, Some(error)) => Ok(Ending::Refused(error)),
+            (None, None) => Ok(Ending::Done),
         }
     }
 }

@@ -2,6 +2,8 @@
 #![tactic(auto)]
 
 mod commands;
+mod edits;
+mod empties;
 mod failures;
 mod files;
 mod lists;

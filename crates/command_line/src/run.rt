@@ -1,26 +1,28 @@
 //! What the program does with its words.
 ghost use Rattle.std.specs.Prelude.{◌≤◌, IfErr};
 
-use crate::commands::{Ending, run};
+use crate::commands::{Ending, Manner, run};
+use crate::edits::{Property, put_stream, set_property, unset_property};
 use crate::failures::failure_of;
 use crate::files;
 use crate::lists::list;
 use crate::progress::Progress;
 use crate::sessions::{commit_copy, create_package};
 use crate::terminals::Terminals;
-use crate::texts::commands_in;
+use crate::texts::{commands_in, name_of};
 use cfb::MemoryMedium;
 use cfb_medium::Error;
 use clap::error::ErrorKind;
 use command_file::{Command, slip_in};
-use command_words::{Line, Log, read_words};
+use command_words::{Line, Log, RunOptions, read_words};
+use installer_runs::Until;
 use msi::Package;
 use package_checks::{adopted_package, check_package};
 use package_files::{
     Failure, Faults, Found, Names, Trouble, cut_log, names_of, remove_fresh, tell, tell_failure,
     tell_failure_of,
 };
-use package_views::{export_package, show_package};
+use package_views::{export_package, extract_stream, get_property, show_package};
 use staged::Recovered;
 use std::alloc::Global;
 use std::fs::File;
@@ -92,8 +94,28 @@ fn carry_out<R: Files<File = File> + AllocGlobal + Clock, O: Write, E: Write>(
         }
         Line::Recover(package, log) => on_files(rt, Word::Recover, package, log, out, err),
         Line::List(package, log) => on_files(rt, Word::List, package, log, out, err),
-        Line::Run(package, log, commands, quiet) => {
-            let word = Word::Run(commands, terminals.err, quiet);
+        Line::Run(package, log, commands, options) => {
+            let word = Word::Run(commands, terminals.err, options);
+            on_files(rt, word, package, log, out, err)
+        }
+        Line::Get(path, log, name, is_field) => match named(rt, path, log, err) {
+            Ok(names) => get_property(rt, &names, name, is_field, out, err),
+            Err(status) => status,
+        },
+        Line::Set(package, log, name, value, is_field) => {
+            let word = Word::Set(Property { name, is_field }, value);
+            on_files(rt, word, package, log, out, err)
+        }
+        Line::Unset(package, log, name, is_field) => {
+            let word = Word::Unset(Property { name, is_field });
+            on_files(rt, word, package, log, out, err)
+        }
+        Line::Extract(path, log, stream, to) => match named(rt, path, log, err) {
+            Ok(names) => extract_stream(rt, &names, stream, to, out, err),
+            Err(status) => status,
+        },
+        Line::Put(package, log, stream, from) => {
+            let word = Word::Put(stream, from);
             on_files(rt, word, package, log, out, err)
         }
         Line::Show(path, log, parts) => match named(rt, path, log, err) {
@@ -137,8 +159,13 @@ enum Word<'a> {
     Adopt(&'a str, Option<&'a str>, bool),
     Recover,
     List,
-    // With the path of the command file, whether progress is shown, and whether no notes are told.
-    Run(&'a str, bool, bool),
+    // With the path of the command file, whether progress is shown, and how it is run.
+    Run(&'a str, bool, RunOptions),
+    // With the value.
+    Set(Property<'a>, &'a str),
+    Unset(Property<'a>),
+    // With the name of the stream, and the path of the file.
+    Put(&'a str, &'a str),
 }
 
 // Does what a word asks for, with the log that is named or the one beside the package.
@@ -187,9 +214,12 @@ fn do_word<R: Files<File = File> + AllocGlobal + Clock, O: Write, E: Write>(
         }
         Word::Recover => finish(rt, names, out, err),
         Word::List => list(rt, names, out, err),
-        Word::Run(commands, shows_progress, is_quiet) => {
-            return run_file(rt, names, commands, out, err, shows_progress, is_quiet);
+        Word::Run(commands, shows_progress, options) => {
+            return run_file(rt, names, commands, out, err, shows_progress, options);
         }
+        Word::Set(property, value) => return set_property(rt, names, property, value, err),
+        Word::Unset(property) => return unset_property(rt, names, property, err),
+        Word::Put(stream, from) => return put_stream(rt, names, stream, from, err),
     };
     status_of(ended, names, err)
 }
@@ -202,21 +232,63 @@ fn run_file<R: Files<File = File> + AllocGlobal + Clock, O: Write, E: Write>(
     out: &mut O,
     err: &mut E,
     shows_progress: bool,
-    is_quiet: bool,
+    options: RunOptions,
 ) -> u8
     ensures { result ≤ 3 }
 {
-    let commands = match commands_in(rt, path, err) {
+    let mut commands = match commands_in(rt, path, options.quiet, err) {
         Ok(commands) => commands,
         Err(error) => return if error == Error::Memory { 3 } else { 2 },
     };
+    let path = name_of(path);
     if let Some(place) = slip_at(&commands) {
         tell_slip(path, place.saturating_add(1), err);
         return 2;
     }
+    if options.all_or_nothing {
+        if let Some(place) = commands.iter().position(is_own_commit) {
+            tell_own_commit(path, place.saturating_add(1), err);
+            return 2;
+        }
+        if commands.push(Command::Commit).is_err() {
+            tell("out of memory", err);
+            return 3;
+        }
+    }
+    let manner = manner_of(options);
     let mut progress = Progress::new(rt, err, shows_progress, commands.len());
-    let ended = run(rt, names, &commands, out, &mut progress, is_quiet);
+    let ended = run(rt, names, &commands, manner, out, &mut progress);
     status_of(ended, names, err)
+}
+
+// How commands are run under these options.
+fn manner_of(options: RunOptions) -> Manner {
+    let until = if options.stop || options.all_or_nothing {
+        Until::Refusal
+    } else {
+        Until::End
+    };
+    Manner {
+        until,
+        is_quiet: options.quiet,
+        is_own: false,
+    }
+}
+
+// Whether a command writes or gives up what --all-or-nothing keeps together.
+fn is_own_commit(command: &Command) -> bool {
+    matches!(
+        command,
+        Command::Commit | Command::Flush | Command::RollBack
+    )
+}
+
+// Tells of such a command.
+fn tell_own_commit<E: Write>(path: &str, number: usize, err: &mut E) {
+    let _ = writeln!(
+        err,
+        "msidb: {path}: command {number}: --all-or-nothing commits at the end by itself; leave `commit`, `flush` and `roll_back` out"
+    );
 }
 
 // A function of its own, since what is told of the call costs time wherever it is seen.
@@ -238,7 +310,7 @@ fn status_of<E: Write>(ended: Result<Ending, Failure>, names: &Names, err: &mut 
 {
     match ended {
         Ok(Ending::Done) => 0,
-        Ok(Ending::Refused) => 1,
+        Ok(Ending::Refused(_)) => 1,
         Err(failure) => {
             tell_failure(names, failure, err);
             3

@@ -2,7 +2,7 @@
 use cfb::{CaseMapper, MemoryMedium};
 use cfb_medium::Error;
 use installer::Command;
-use installer_runs::{Ending, Listener, copy_on, create_on, run_on};
+use installer_runs::{Ending, Listener, Until, copy_on, create_on, run_on};
 use msi::Package;
 use package_files::PackageDevice;
 use std::alloc::Global;
@@ -19,15 +19,16 @@ pub(crate) fn create_package<R: Files<File = File>>(
     made
 }
 
-/// Runs commands on a package that is there. The one error is `Memory`: then nothing was done.
+/// Runs commands on a package that is there, to the last or to the first that is refused. The one error is `Memory`: then nothing was done.
 pub(crate) fn run_commands<R: Files<File = File>, L: Listener>(
     alloc: Global,
     device: PackageDevice<'_, R>,
     commands: &[Command],
+    until: Until,
     listener: &mut L,
 ) -> Result<Ending, Error> {
     let letters = CaseMapper::ascii(alloc)?;
-    let (_device, ending) = run_on(alloc, device, letters, commands, listener);
+    let (_device, ending) = run_on(alloc, device, letters, commands, until, listener);
     Ok(ending)
 }
 

@@ -1,4 +1,5 @@
 //! The text of a command file.
+use crate::empties::tell_empty_texts;
 use cfb_medium::Error;
 use command_file::{Command, Refusal, read_commands, refusal_in};
 use package_files::{Trouble, tell, tell_trouble, trouble_at};
@@ -8,16 +9,32 @@ use std::fs::{self, File};
 use std::io::{self, Write};
 use std::rt::Files;
 
+/// What a path of a file that is read is called where it is `-`, which stands for the standard input.
+pub(crate) fn name_of(path: &str) -> &str {
+    if path == "-" { "standard input" } else { path }
+}
+
+/// Where the system has the standard input as a file.
+pub(crate) const INPUT: &str = "/dev/stdin";
+
 /// The commands of a file, or why it was refused, which is told. `Memory` where there is no room, else `InvalidData`: where the file
-/// isn't there or can't be read, is no JSON text, or holds other than commands.
+/// isn't there or can't be read, is no JSON text, or holds other than commands. Empty texts, which other programs take for null, are told
+/// unless nothing is to be noted.
 pub(crate) fn commands_in<R: Files<File = File> + AllocGlobal, E: Write>(
     rt: &R,
     path: &str,
+    is_quiet: bool,
     err: &mut E,
 ) -> Result<Vec<Command>, Error> {
     let text = text_in(rt, path, err)?;
+    let path = name_of(path);
     match commands_of(rt.alloc(), &text) {
-        Ok(commands) => Ok(commands),
+        Ok(commands) => {
+            if !is_quiet {
+                tell_empty_texts(rt.alloc(), path, &text, err);
+            }
+            Ok(commands)
+        }
         Err(error) => {
             tell_why_refused(rt.alloc(), path, &text, error, err);
             Err(error)
@@ -31,13 +48,25 @@ fn text_in<R: Files<File = File> + AllocGlobal, E: Write>(
     path: &str,
     err: &mut E,
 ) -> Result<String, Error> {
+    if path == "-" {
+        return read_text(rt, INPUT, name_of(path), err);
+    }
     if let Some(trouble) = trouble_at(rt, path) {
         tell_trouble(path, trouble, err);
         return Err(Error::InvalidData);
     }
+    read_text(rt, path, path, err)
+}
+
+fn read_text<R: Files<File = File> + AllocGlobal, E: Write>(
+    rt: &R,
+    path: &str,
+    named: &str,
+    err: &mut E,
+) -> Result<String, Error> {
     match fs::read_to_string(rt, path) {
         Ok(text) => Ok(text),
-        Err(error) => Err(tell_unread(path, error.kind(), err)),
+        Err(error) => Err(tell_unread(named, error.kind(), err)),
     }
 }
 
@@ -60,7 +89,7 @@ fn tell_unread<E: Write>(path: &str, kind: io::ErrorKind, err: &mut E) -> Error 
 }
 
 // Functions of their own, since what is told of these calls costs time wherever it is seen.
-fn commands_of(alloc: Global, text: &str) -> Result<Vec<Command>, Error> {
+pub(crate) fn commands_of(alloc: Global, text: &str) -> Result<Vec<Command>, Error> {
     read_commands(alloc, text)
 }
 

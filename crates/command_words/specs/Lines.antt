@@ -5,21 +5,27 @@ use Rattle.std.specs.Str.{bytes_eq}
 use Rattle.clap.specs.Words.{Row, Text, first_of, subcommand_of}
 use Rattle.command_words.specs.Words.{msidb}
 use Rattle.command_words.specs.declared.line.Line.{Line}
-use Rattle.command_words.specs.declared.line.Line.TheVariants.{Adopt, Check, Create, List as ListNames, Export, Recover, Run, Show}
+use Rattle.command_words.specs.declared.line.Line.TheVariants.{Adopt, Check, Create, List as ListNames, Export, Extract, Get, Put, Recover, Run, Set, Show, Unset}
 use Rattle.command_words.specs.declared.line.Log.{Log}
 use Rattle.command_words.specs.declared.line.Log.TheVariants.{At, Beside, Twice}
 use Rattle.command_words.specs.declared.line.Parts.{Parts}
+use Rattle.command_words.specs.declared.line.RunOptions.{RunOptions}
 
 -- what a line says: the word, and each path with the name under which it is given
 abbrev pub words_of_line : Line → Text × List (Text × Text)
 words_of_line (Create home log) = (codes "create", (codes "PACKAGE", home.now) ∷ [])
 words_of_line (Recover home log) = (codes "recover", (codes "PACKAGE", home.now) ∷ [])
-words_of_line (Run home log commands quiet) = (codes "run", (codes "PACKAGE", home.now) ∷ [])
+words_of_line (Run home log commands options) = (codes "run", (codes "PACKAGE", home.now) ∷ [])
 words_of_line (Adopt home log source beside validation) = (codes "adopt", (codes "PACKAGE", home.now) ∷ (codes "SOURCE", source.now) ∷ [])
 words_of_line (ListNames home log) = (codes "list", (codes "PACKAGE", home.now) ∷ [])
 words_of_line (Show file log parts) = (codes "show", (codes "FILE", file.now) ∷ [])
 words_of_line (Check file log) = (codes "check", (codes "FILE", file.now) ∷ [])
 words_of_line (Export file log folder) = (codes "export", (codes "FILE", file.now) ∷ (codes "FOLDER", folder.now) ∷ [])
+words_of_line (Get file log name summary) = (codes "get", (codes "FILE", file.now) ∷ (codes "NAME", name.now) ∷ [])
+words_of_line (Set home log name value summary) = (codes "set", (codes "PACKAGE", home.now) ∷ (codes "NAME", name.now) ∷ (codes "VALUE", value.now) ∷ [])
+words_of_line (Unset home log name summary) = (codes "unset", (codes "PACKAGE", home.now) ∷ (codes "NAME", name.now) ∷ [])
+words_of_line (Extract file log stream to) = (codes "extract", (codes "FILE", file.now) ∷ (codes "STREAM", stream.now) ∷ (codes "PATH", to.now) ∷ [])
+words_of_line (Put home log stream from) = (codes "put", (codes "PACKAGE", home.now) ∷ (codes "STREAM", stream.now) ∷ (codes "PATH", from.now) ∷ [])
 
 -- these paths were given under these names
 abbrev pub AreIn : List (Text × Text) → List Row → Type 0
@@ -36,6 +42,11 @@ abbrev pub AreAsked : Parts → List Row → Type 0
 AreAsked parts rows = (option_map (λ s. s.now) parts.table ≡ first_of (codes "TABLE") rows)
     × (parts.summary ≡ is_set (first_of (codes "summary") rows)) × (parts.streams ≡ is_set (first_of (codes "streams") rows))
     × (parts.tree ≡ is_set (first_of (codes "tree") rows))
+
+-- so commands are run
+abbrev pub AreOptions : RunOptions → List Row → Type 0
+AreOptions options rows = (options.quiet ≡ is_set (first_of (codes "quiet") rows)) × (options.stop ≡ is_set (first_of (codes "stop") rows))
+    × (options.all_or_nothing ≡ is_set (first_of (codes "all-or-nothing") rows))
 
 -- which log is named: none, one, or two
 pub data Named : Type 0 where
@@ -78,11 +89,16 @@ AsksFor (Create home log) rows = IsNamedIn log (first_of (codes "LOG") rows) row
 AsksFor (Recover home log) rows = IsNamedIn log (first_of (codes "LOG") rows) rows
 AsksFor (ListNames home log) rows = IsNamedIn log (first_of (codes "LOG") rows) rows
 AsksFor (Adopt home log source beside validation) rows = IsNamedIn log None rows × IsReadLog beside (codes "source-log") rows × (validation ≡ is_set (first_of (codes "validation") rows))
-AsksFor (Run home log commands quiet) rows = let first = first_of (codes "COMMANDS") rows in let last = first_of (codes "LAST") rows in
-    (Some commands.now ≡ commands_among first last) × IsNamedIn log (log_among first last) rows × (quiet ≡ is_set (first_of (codes "quiet") rows))
+AsksFor (Run home log commands options) rows = let first = first_of (codes "COMMANDS") rows in let last = first_of (codes "LAST") rows in
+    (Some commands.now ≡ commands_among first last) × IsNamedIn log (log_among first last) rows × AreOptions options rows
 AsksFor (Show file log parts) rows = IsReadLog log (codes "log") rows × AreAsked parts rows
 AsksFor (Check file log) rows = IsReadLog log (codes "log") rows
 AsksFor (Export file log folder) rows = IsReadLog log (codes "log") rows
+AsksFor (Get file log name summary) rows = IsReadLog log (codes "log") rows × (summary ≡ is_set (first_of (codes "summary") rows))
+AsksFor (Set home log name value summary) rows = IsNamedIn log None rows × (summary ≡ is_set (first_of (codes "summary") rows))
+AsksFor (Unset home log name summary) rows = IsNamedIn log None rows × (summary ≡ is_set (first_of (codes "summary") rows))
+AsksFor (Extract file log stream to) rows = IsReadLog log (codes "log") rows
+AsksFor (Put home log stream from) rows = IsNamedIn log None rows
 
 -- the word that was found, with its paths, is what the line says
 abbrev pub SaidIn : Line → Option (Text × List Row) → Type 0

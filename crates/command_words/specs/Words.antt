@@ -26,8 +26,32 @@ flag id = record (new_rule id) { long = Some id; action = Some SetTrue }
 abbrev pub run_logged : App
 run_logged = with_rule (with_rule two_paths (new_rule (codes "LAST"))) log_option
 
+abbrev pub run_quiet : App
+run_quiet = with_rule run_logged (flag (codes "quiet"))
+
 abbrev pub run : App
-run = with_rule run_logged (flag (codes "quiet"))
+run = with_rule (with_rule run_quiet (flag (codes "stop"))) (flag (codes "all-or-nothing"))
+
+-- a word with two paths or names
+abbrev pub with_two : App → Text → Text → App
+with_two app first second = with_rule (with_rule app (path first)) (path second)
+
+-- the words on one property, or with a flag on one field of the summary, with the log
+abbrev pub or_summary : App → App
+or_summary app = with_rule (with_rule app (flag (codes "summary"))) log_option
+
+abbrev pub property_got : App
+property_got = or_summary (with_two (new_app (codes "get")) (codes "FILE") (codes "NAME"))
+
+abbrev pub property_set : App
+property_set = or_summary (with_rule (with_two (new_app (codes "set")) (codes "PACKAGE") (codes "NAME")) (path (codes "VALUE")))
+
+abbrev pub property_unset : App
+property_unset = or_summary (with_two (new_app (codes "unset")) (codes "PACKAGE") (codes "NAME"))
+
+-- the words that move a stream to a file, and a file to a stream, with the log
+abbrev pub stream_moved : Text → Text → App
+stream_moved name file = with_rule (with_rule (with_two (new_app name) file (codes "STREAM")) (path (codes "PATH"))) log_option
 
 -- the word that adopts a package: its own path, and that of the package that is read, with its log behind `--log`, and a flag
 abbrev pub sourced : App
@@ -91,5 +115,15 @@ with_looks = with_subcommand (with_subcommand with_log shown.top) checked.top
 abbrev pub with_files : App
 with_files = with_subcommand with_looks exported.top
 
+abbrev pub with_adopt : App
+with_adopt = with_subcommand with_files adopted.top
+
+-- and those on one property or field, and on one stream
+abbrev pub with_get : App
+with_get = with_subcommand (with_subcommand with_adopt property_got.top) property_set.top
+
+abbrev pub with_unset : App
+with_unset = with_subcommand (with_subcommand with_get property_unset.top) (stream_moved (codes "extract") (codes "FILE")).top
+
 abbrev pub msidb : App
-msidb = with_subcommand with_files adopted.top
+msidb = with_subcommand with_unset (stream_moved (codes "put") (codes "PACKAGE")).top

@@ -2,7 +2,7 @@
 ghost use Rattle.std.specs.Prelude.{◌≡◌, IfOk, IfErr, IfSome, codes, option_map, map, string_bytes, true};
 ghost use Rattle.clap.specs.Words.{first_of, found_of, kind_of, rows_of, subcommand_rows_of, takes};
 ghost use Rattle.command_words.specs.Words.{msidb};
-ghost use Rattle.command_words.specs.Lines.{words_of_line, is_set, named, named_by, AreIn, AreAsked, AsksFor, IsNamedIn, SaidIn, HasSaid};
+ghost use Rattle.command_words.specs.Lines.{words_of_line, is_set, named, named_by, AreIn, AreAsked, AreOptions, AsksFor, IsNamedIn, SaidIn, HasSaid};
 
 use crate::words::matches;
 use clap::error::ErrorKind;
@@ -33,6 +33,17 @@ pub struct Parts<'a> {
     pub tree: bool,
 }
 
+/// How commands are run.
+#[derive(Clone, Copy, Debug, PartialEq, Eq)]
+pub struct RunOptions {
+    /// No notes are told.
+    pub quiet: bool,
+    /// None is run behind the first that is refused.
+    pub stop: bool,
+    /// They are committed together, if none is refused; else nothing is.
+    pub all_or_nothing: bool,
+}
+
 /// What the program is asked for: the path of a package with its log, and of a command file; or the path of a file, and what is shown
 /// of it.
 #[derive(Clone, Copy, Debug, PartialEq, Eq)]
@@ -44,8 +55,8 @@ pub enum Line<'a> {
     Adopt(&'a str, Log<'a>, &'a str, Option<&'a str>, bool),
     /// Finish a commit.
     Recover(&'a str, Log<'a>),
-    /// Run the commands of a file; and whether no notes are told.
-    Run(&'a str, Log<'a>, &'a str, bool),
+    /// Run the commands of a file.
+    Run(&'a str, Log<'a>, &'a str, RunOptions),
     /// List the tables and the streams.
     List(&'a str, Log<'a>),
     /// Show parts of a package of any maker, with its log, where it is named.
@@ -54,6 +65,16 @@ pub enum Line<'a> {
     Check(&'a str, Option<&'a str>),
     /// Write a package of any maker to a new folder.
     Export(&'a str, Option<&'a str>, &'a str),
+    /// Tell the property of a name, or whether it is a field of the summary.
+    Get(&'a str, Option<&'a str>, &'a str, bool),
+    /// Give the property of a name a value, or whether it is a field of the summary.
+    Set(&'a str, Log<'a>, &'a str, &'a str, bool),
+    /// Take the property of a name away, or whether it is a field of the summary.
+    Unset(&'a str, Log<'a>, &'a str, bool),
+    /// Write a stream to a new file.
+    Extract(&'a str, Option<&'a str>, &'a str, &'a str),
+    /// Put the bytes of a file into a stream.
+    Put(&'a str, Log<'a>, &'a str, &'a str),
 }
 
 /// Reads the words after the program's name. Words that ask for nothing are refused, with a text that says why; so is a wish for help
@@ -102,6 +123,11 @@ fn line_of<'a>(name: &str, paths: &ArgMatches<'a>) -> Option<Line<'a>>
         }
         "run" => line_of_run(paths),
         "adopt" => line_of_adoption(paths),
+        "get" => line_of_get(paths),
+        "set" => line_of_set(paths),
+        "unset" => line_of_unset(paths),
+        "extract" => line_of_extract(paths),
+        "put" => line_of_put(paths),
         _ => line_on_package(name, paths),
     }
 }
@@ -130,17 +156,93 @@ fn line_of_run<'a>(paths: &ArgMatches<'a>) -> Option<Line<'a>>
 {
     let package = path(paths, "PACKAGE")?;
     let first = path(paths, "COMMANDS")?;
-    let quiet = has_flag(paths, "quiet");
+    let options = options_in(paths);
     match path(paths, "LAST") {
         Some(last) => {
             let log = log_in(Some(first), paths);
-            Some(Line::Run(package, log, last, quiet))
+            Some(Line::Run(package, log, last, options))
         }
         None => {
             let log = log_in(None, paths);
-            Some(Line::Run(package, log, first, quiet))
+            Some(Line::Run(package, log, first, options))
         }
     }
+}
+
+fn options_in(paths: &ArgMatches<'_>) -> RunOptions
+    ensures { AreOptions result (rows_of (found_of paths.now)) }
+{
+    RunOptions {
+        quiet: has_flag(paths, "quiet"),
+        stop: has_flag(paths, "stop"),
+        all_or_nothing: has_flag(paths, "all-or-nothing"),
+    }
+}
+
+// The line of the word that tells a property.
+fn line_of_get<'a>(paths: &ArgMatches<'a>) -> Option<Line<'a>>
+    ensures { IfSome result (λ line. ((words_of_line line).0 ≡ codes "get")
+        × AreIn (words_of_line line).1 (rows_of (found_of paths.now))
+        × AsksFor line (rows_of (found_of paths.now))) }
+{
+    let file = path(paths, "FILE")?;
+    let name = path(paths, "NAME")?;
+    let log = path(paths, "log");
+    let summary = has_flag(paths, "summary");
+    Some(Line::Get(file, log, name, summary))
+}
+
+// The line of the word that sets a property.
+fn line_of_set<'a>(paths: &ArgMatches<'a>) -> Option<Line<'a>>
+    ensures { IfSome result (λ line. ((words_of_line line).0 ≡ codes "set")
+        × AreIn (words_of_line line).1 (rows_of (found_of paths.now))
+        × AsksFor line (rows_of (found_of paths.now))) }
+{
+    let package = path(paths, "PACKAGE")?;
+    let name = path(paths, "NAME")?;
+    let value = path(paths, "VALUE")?;
+    let log = log_in(None, paths);
+    let summary = has_flag(paths, "summary");
+    Some(Line::Set(package, log, name, value, summary))
+}
+
+// The line of the word that takes a property away.
+fn line_of_unset<'a>(paths: &ArgMatches<'a>) -> Option<Line<'a>>
+    ensures { IfSome result (λ line. ((words_of_line line).0 ≡ codes "unset")
+        × AreIn (words_of_line line).1 (rows_of (found_of paths.now))
+        × AsksFor line (rows_of (found_of paths.now))) }
+{
+    let package = path(paths, "PACKAGE")?;
+    let name = path(paths, "NAME")?;
+    let log = log_in(None, paths);
+    let summary = has_flag(paths, "summary");
+    Some(Line::Unset(package, log, name, summary))
+}
+
+// The line of the word that writes a stream to a file.
+fn line_of_extract<'a>(paths: &ArgMatches<'a>) -> Option<Line<'a>>
+    ensures { IfSome result (λ line. ((words_of_line line).0 ≡ codes "extract")
+        × AreIn (words_of_line line).1 (rows_of (found_of paths.now))
+        × AsksFor line (rows_of (found_of paths.now))) }
+{
+    let file = path(paths, "FILE")?;
+    let stream = path(paths, "STREAM")?;
+    let to = path(paths, "PATH")?;
+    let log = path(paths, "log");
+    Some(Line::Extract(file, log, stream, to))
+}
+
+// The line of the word that puts a file into a stream.
+fn line_of_put<'a>(paths: &ArgMatches<'a>) -> Option<Line<'a>>
+    ensures { IfSome result (λ line. ((words_of_line line).0 ≡ codes "put")
+        × AreIn (words_of_line line).1 (rows_of (found_of paths.now))
+        × AsksFor line (rows_of (found_of paths.now))) }
+{
+    let package = path(paths, "PACKAGE")?;
+    let stream = path(paths, "STREAM")?;
+    let from = path(paths, "PATH")?;
+    let log = log_in(None, paths);
+    Some(Line::Put(package, log, stream, from))
 }
 
 // The line of the word that adopts a package.

@@ -1,7 +1,7 @@
 //! The words that the program takes.
 ghost use Rattle.std.specs.Prelude.{◌≡◌, codes, true, false, IfOk, IfErr, map, string_bytes};
 ghost use Rattle.clap.specs.Words.{app_of, kind_of, new_app, new_rule, rule_of, takes, with_rule, with_subcommand, HasMatchesOf};
-ghost use Rattle.command_words.specs.Words.{adopted, bare, checked, exported, flag, log_option, msidb, on_package, path, run, run_logged, shown, source_log_option, source_logged, sourced, streams_shown, summary_shown, table_shown, tree_shown, two_paths, with_files, with_log, with_looks, without_run};
+ghost use Rattle.command_words.specs.Words.{adopted, bare, checked, exported, flag, log_option, msidb, on_package, path, property_got, property_set, property_unset, run, run_logged, run_quiet, or_summary, stream_moved, with_adopt, with_get, with_two, with_unset, shown, source_log_option, source_logged, sourced, streams_shown, summary_shown, table_shown, tree_shown, two_paths, with_files, with_log, with_looks, without_run};
 
 use clap::error::ErrorKind;
 use clap::{Arg, ArgAction, ArgMatches, Command, Error};
@@ -92,7 +92,7 @@ fn with_paths<'a>(
     let log = optional_path(
         alloc,
         "LOG",
-        "Its log, by which a commit survives a stop; the same as behind `--log`",
+        "Its log, by which a commit survives a crash; the same as behind `--log`",
     );
     let second = add(first, log)?;
     add(second, log_behind(alloc))
@@ -138,13 +138,13 @@ fn with_commands<'a>(alloc: Global) -> Result<Command<'a>, AllocError>
         help_on_commands(),
     )
     .override_usage(
-        "msidb run [--quiet] [--log <LOG>] <PACKAGE> <COMMANDS>\n       msidb run [--quiet] <PACKAGE> <LOG> <COMMANDS>",
+        "msidb run [OPTIONS] [--log <LOG>] <PACKAGE> <COMMANDS>\n       msidb run [OPTIONS] <PACKAGE> <LOG> <COMMANDS>",
     );
     let first = add(command, needed_path(alloc, "PACKAGE", "The package"))?;
     let commands = needed_path(
         alloc,
         "COMMANDS",
-        "The command file: a JSON array of objects, each with its `op`",
+        "The command file: a JSON array of objects, each with its `op`; - is standard input",
     );
     add(first, commands)
 }
@@ -160,8 +160,8 @@ fn with_run_log<'a>(alloc: Global) -> Result<Command<'a>, AllocError>
 }
 
 // The same with a flag for no notes.
-fn with_run<'a>(alloc: Global) -> Result<Command<'a>, AllocError>
-    ensures { IfOk result (λ c. app_of c ≡ run) }
+fn with_quiet_run<'a>(alloc: Global) -> Result<Command<'a>, AllocError>
+    ensures { IfOk result (λ c. app_of c ≡ run_quiet) }
 {
     let command = with_run_log(alloc)?;
     let quiet = flag_of(
@@ -170,6 +170,25 @@ fn with_run<'a>(alloc: Global) -> Result<Command<'a>, AllocError>
         "No notes on stderr; what goes wrong is told all the same",
     );
     add(command, quiet)
+}
+
+// The same with flags for an earlier end.
+fn with_run<'a>(alloc: Global) -> Result<Command<'a>, AllocError>
+    ensures { IfOk result (λ c. app_of c ≡ run) }
+{
+    let command = with_quiet_run(alloc)?;
+    let stop = flag_of(
+        alloc,
+        "stop",
+        "Run no command behind the first that is refused; what was committed before stays",
+    );
+    let first = add(command, stop)?;
+    let whole = flag_of(
+        alloc,
+        "all-or-nothing",
+        "Commit at the end if no command is refused, and else nothing; the file has no commit of its own",
+    );
+    add(first, whole)
 }
 
 // What stands behind the help of the word that shows a package.
@@ -260,7 +279,7 @@ fn with_judged<'a>(alloc: Global) -> Result<Command<'a>, AllocError>
 
 // What stands behind the help of the word that exports a package.
 fn help_on_export<'a>() -> &'a str {
-    "Example: msidb export setup.msi setup\nWrites each table as TABLE.idt, as Windows Installer exports it, and each other stream to _Streams.\nThe files are made in setup.part, which gets the name at the end. In names of files each byte but letters, digits, `_`, `-` and a dot that isn't the first stands as % and two digits.\nStatus: 0 done, 3 the file is no package, or not all could be read and written."
+    "Example: msidb export setup.msi setup\nWrites each table as TABLE.idt, as Windows Installer exports it, the bytes of its rows to TABLE, and each other stream to _Streams.\nThe files are made in setup.part, which gets the name at the end. In names of files each byte but letters, digits, `_`, `-` and a dot that isn't the first stands as % and two digits.\nStatus: 0 done, 1 done, and what isn't read back from the files as it was is told, 3 the file is no package, or not all could be read and written."
 }
 
 // The word that exports a package, with the paths of a file and of a folder.
@@ -332,6 +351,150 @@ fn with_adoption<'a>(alloc: Global) -> Result<Command<'a>, AllocError>
     add(command, validation)
 }
 
+// A word with two paths or names.
+fn with_two<'a>(
+    command: Command<'a>,
+    one: Arg<'a>,
+    other: Arg<'a>,
+) -> Result<Command<'a>, AllocError>
+    requires first { one.global ≡ false }
+    requires second { other.global ≡ false }
+    ensures { IfOk result (λ c. app_of c ≡ with_rule
+        (with_rule (app_of command.entry) (rule_of one.entry)) (rule_of other.entry)) }
+{
+    let first = add(command, one)?;
+    add(first, other)
+}
+
+// The same for a field of the summary, with the log.
+fn or_summary<'a>(alloc: Global, command: Command<'a>) -> Result<Command<'a>, AllocError>
+    ensures { IfOk result (λ c. app_of c ≡ or_summary (app_of command.entry)) }
+{
+    let summary = flag_of(alloc, "summary", "NAME is a field of the summary");
+    with_two(command, summary, log_behind(alloc))
+}
+
+// What stands behind the help of the words on one property.
+fn help_on_properties<'a>() -> &'a str {
+    "Example: msidb set setup.msi ProductVersion 1.2.3\nA property is a row of the table Property. Each of these words commits once, or changes nothing.\nFields of the summary: title subject author keywords comments arch languages last_saved_by uuid last_printed creation_time last_saved_time\npage_count word_count character_count creating_application doc_security codepage. Several keywords or languages stand with commas between\nthem; a time is a number of tenths of a microsecond since 1601.\nStatus: 0 done, 1 there is none, or a rule refused it, 3 a fault, or files that were refused."
+}
+
+// The word that tells a property.
+fn with_property_got<'a>(alloc: Global) -> Result<Command<'a>, AllocError>
+    ensures { IfOk result (λ c. app_of c ≡ property_got) }
+{
+    let command = word(
+        alloc,
+        "get",
+        "Prints a property, or a field of the summary",
+        help_on_properties(),
+    );
+    let file = needed_path(alloc, "FILE", "The package of any maker");
+    let name = needed_path(alloc, "NAME", "The name of the property");
+    let named = with_two(command, file, name)?;
+    or_summary(alloc, named)
+}
+
+// The word that sets one, but for its flag and log.
+fn with_value<'a>(alloc: Global) -> Result<Command<'a>, AllocError>
+    ensures { IfOk result (λ c. app_of c ≡ with_rule
+        (with_two (new_app (codes "set")) (codes "PACKAGE") (codes "NAME"))
+        (path (codes "VALUE"))) }
+{
+    let command = word(
+        alloc,
+        "set",
+        "Sets a property, or a field of the summary, and commits",
+        help_on_properties(),
+    );
+    let package = needed_path(alloc, "PACKAGE", "The package");
+    let name = needed_path(alloc, "NAME", "The name of the property");
+    let named = with_two(command, package, name)?;
+    let value = needed_path(
+        alloc,
+        "VALUE",
+        "Its value; behind -- it may begin with a hyphen",
+    );
+    add(named, value)
+}
+
+// The word that sets one.
+fn with_property_set<'a>(alloc: Global) -> Result<Command<'a>, AllocError>
+    ensures { IfOk result (λ c. app_of c ≡ property_set) }
+{
+    let command = with_value(alloc)?;
+    or_summary(alloc, command)
+}
+
+// The word that takes one away.
+fn with_property_unset<'a>(alloc: Global) -> Result<Command<'a>, AllocError>
+    ensures { IfOk result (λ c. app_of c ≡ property_unset) }
+{
+    let command = word(
+        alloc,
+        "unset",
+        "Takes a property away, or a field of the summary, and commits",
+        help_on_properties(),
+    );
+    let package = needed_path(alloc, "PACKAGE", "The package");
+    let name = needed_path(alloc, "NAME", "The name of the property");
+    let named = with_two(command, package, name)?;
+    or_summary(alloc, named)
+}
+
+// What stands behind the help of the words on one stream.
+fn help_on_streams<'a>() -> &'a str {
+    "Example: msidb put setup.msi Binary.dialog dialog.dll\nBytes of a table's cell stand in the stream TABLE.KEY. `msidb list` tells the names.\nPATH of extract must not be there; the bytes are written to PATH.part, which gets the name at the end. put commits once, or changes nothing.\nStatus: 0 done, 1 there is no such stream, or a rule refused it, 3 a fault, or files that were refused."
+}
+
+// A word that moves a stream.
+fn with_moved<'a>(
+    alloc: Global,
+    command: Command<'a>,
+    file: Arg<'a>,
+    to: Arg<'a>,
+) -> Result<Command<'a>, AllocError>
+    requires first { file.global ≡ false }
+    requires second { to.global ≡ false }
+    ensures { IfOk result (λ c. app_of c ≡ with_rule (with_rule (with_rule (with_rule
+        (app_of command.entry) (rule_of file.entry)) (path (codes "STREAM")))
+        (rule_of to.entry)) log_option) }
+{
+    let stream = needed_path(alloc, "STREAM", "The name of the stream");
+    let named = with_two(command, file, stream)?;
+    with_two(named, to, log_behind(alloc))
+}
+
+// The word that writes one to a file.
+fn with_extract<'a>(alloc: Global) -> Result<Command<'a>, AllocError>
+    ensures { IfOk result (λ c. app_of c ≡ stream_moved (codes "extract") (codes "FILE")) }
+{
+    let command = word(
+        alloc,
+        "extract",
+        "Writes the bytes of a stream to a new file",
+        help_on_streams(),
+    );
+    let file = needed_path(alloc, "FILE", "The package of any maker");
+    let to = needed_path(alloc, "PATH", "The file, which must not be there");
+    with_moved(alloc, command, file, to)
+}
+
+// The word that puts a file into one.
+fn with_put<'a>(alloc: Global) -> Result<Command<'a>, AllocError>
+    ensures { IfOk result (λ c. app_of c ≡ stream_moved (codes "put") (codes "PACKAGE")) }
+{
+    let command = word(
+        alloc,
+        "put",
+        "Puts the bytes of a file into a stream, and commits",
+        help_on_streams(),
+    );
+    let package = needed_path(alloc, "PACKAGE", "The package");
+    let from = needed_path(alloc, "PATH", "The file; - is standard input");
+    with_moved(alloc, command, package, from)
+}
+
 // The program's name, without a word, and what stands around its help.
 fn program<'a>(alloc: Global) -> Command<'a>
     ensures { app_of result ≡ new_app (codes "msidb") }
@@ -339,7 +502,7 @@ fn program<'a>(alloc: Global) -> Command<'a>
     word(
         alloc,
         "msidb",
-        "Windows Installer databases that survive a stop at any moment",
+        "Windows Installer databases that survive a crash at any moment",
         STATUSES,
     )
 }
@@ -377,7 +540,7 @@ fn on_files<'a>(alloc: Global) -> Result<Command<'a>, AllocError>
     let recover = with_paths(
         alloc,
         "recover",
-        "Finishes a commit that a stop cut short",
+        "Finishes a commit that a crash cut short",
         "Example: msidb recover setup.msi\nPrints `closed` where there was nothing to do, else `applied` and how many pages were written.",
     )?;
     with(first, recover)
@@ -419,13 +582,44 @@ fn on_exports<'a>(alloc: Global) -> Result<Command<'a>, AllocError>
     with(bare, export)
 }
 
-// The program's words.
-fn definition<'a>(alloc: Global) -> Result<Command<'a>, AllocError>
-    ensures { IfOk result (λ c. app_of c ≡ msidb) }
+// And the one that adopts.
+fn on_adoptions<'a>(alloc: Global) -> Result<Command<'a>, AllocError>
+    ensures { IfOk result (λ c. app_of c ≡ with_adopt) }
 {
     let adopt = with_adoption(alloc)?;
     let bare = on_exports(alloc)?;
     with(bare, adopt)
+}
+
+// And those on a property that is told or set.
+fn on_properties<'a>(alloc: Global) -> Result<Command<'a>, AllocError>
+    ensures { IfOk result (λ c. app_of c ≡ with_get) }
+{
+    let bare = on_adoptions(alloc)?;
+    let get = with_property_got(alloc)?;
+    let first = with(bare, get)?;
+    let set = with_property_set(alloc)?;
+    with(first, set)
+}
+
+// And those that take one away, and that extract a stream.
+fn on_streams<'a>(alloc: Global) -> Result<Command<'a>, AllocError>
+    ensures { IfOk result (λ c. app_of c ≡ with_unset) }
+{
+    let bare = on_properties(alloc)?;
+    let unset = with_property_unset(alloc)?;
+    let first = with(bare, unset)?;
+    let extract = with_extract(alloc)?;
+    with(first, extract)
+}
+
+// The program's words.
+fn definition<'a>(alloc: Global) -> Result<Command<'a>, AllocError>
+    ensures { IfOk result (λ c. app_of c ≡ msidb) }
+{
+    let put = with_put(alloc)?;
+    let bare = on_streams(alloc)?;
+    with(bare, put)
 }
 
 // What was found among the words.

@@ -79,16 +79,16 @@ pub published_at : {D : Type 0} (g : device.Ghosts D) (result : Result (Unit {0}
 published_at g (Ok u) d Found p = (p.0, p.1.left, p.2)
 published_at g (Err e) d Found p = tt
 
-base_kept : (start end : SessionState) (request : Request) → is_commit request ≡ false → KeepsBase start request end → end.base ≡ start.base
-base_kept start end request other (inl kept) = kept
-base_kept start end request other (inr cut) = absurd (both_ways (is_commit request) other cut.0)
+base_kept : (start end : SessionState) (request : Request) (e : Error) → is_commit request ≡ false → KeepsBase start request e end → end.base ≡ start.base
+base_kept start end request e other (inl kept) = kept
+base_kept start end request e other (inr cut) = absurd (both_ways (is_commit request) other cut.0)
 
 -- what is no commit and no roll back leaves the package to which one leads
 pub kept_quiet : (letters : CaseTable) (start end : SessionState) (request : Request) (reply : Reply) → is_commit request ≡ false → is_roll_back request ≡ false → CommandStep letters start request reply end
     → (end.base ≡ start.base) × (end.sound ≡ start.sound)
 kept_quiet letters start end request reply other unrolled (steps run step base yet sound counted) = (base ∙ base_other start request reply other, sound)
 kept_quiet letters start end request reply other unrolled (stays e run is undone page same counted) = (ap (λ (c : SessionState). c.base) same, ap (λ (c : SessionState). c.sound) same)
-kept_quiet letters start end request reply other unrolled (fails e run is undone unread same base counted) = (base_kept start end request other base, ap (λ (c : SessionState). c.sound) same)
+kept_quiet letters start end request reply other unrolled (fails e run is undone unread same base counted) = (base_kept start end request e other base, ap (λ (c : SessionState). c.sound) same)
 kept_quiet letters start end request reply other unrolled (refuses run own is same) = (ap (λ (c : SessionState). c.base) same, ap (λ (c : SessionState). c.sound) same)
 kept_quiet letters start end request reply other unrolled (rolls back goes) = absurd (both_ways (is_roll_back request) unrolled back)
 

@@ -134,24 +134,32 @@ module _ {F : Type 0} {g : Ghosts F} (old new : Package F g) (start : SessionSta
   pub held_at : (P : PackageContent) → failed_in new ≡ false → PackageHasContent new P → IsAt new (with_held P)
   held_at P now held = record { phase = was ∙ ap phase_of (sym now); held = λ _. held; failures = refl; sound = at.sound ∙ sym sound }
 
-  -- it came to nothing: nothing is changed, or it has failed
-  pub undone : (request : Request) (e : Error) → is_reading request ≡ false → ((end : SessionState) → end.failures ≡ g.failures (medium_in (file_in new)) → IsUndone start request e end)
-      → (failed_in new ≡ true) ⊎ KeepsHeld old new → Leads new letters start request (told.refused e)
-  undone request e unread is kept = ⊎_elim
+  -- it came to nothing: nothing is changed, or it has failed; what leads back stays
+  pub undone_based : (request : Request) (e : Error) → is_reading request ≡ false → ((end : SessionState) → end.failures ≡ g.failures (medium_in (file_in new)) → IsUndone start request e end)
+      → (failed_in new ≡ true) ⊎ KeepsHeld old new → (end : SessionState) × CommandStep letters start request (told.refused e) end × IsAt new end × (end.base ≡ start.base) × (end.sound ≡ start.sound)
+  undone_based request e unread is kept = ⊎_elim
       (λ now. (
         record start { failures = g.failures (medium_in (file_in new)); phase = failed },
         fails e was refl (is (record start { failures = g.failures (medium_in (file_in new)); phase = failed }) refl) unread refl (inl refl) more,
         record { phase = ap phase_of (sym now); held = λ no. absurd (cc); failures = refl; sound = at.sound ∙ sym sound },
+        refl,
+        refl,
       ))
       (λ now. (
         with_held start.held,
         stays e was refl (is (with_held start.held) refl) (not_codepage request unread) refl more,
         held_at start.held now (⊎_elim (λ failed. absurd (both_ways (failed_in new) now failed)) (λ keeps. keeps.holds start.held held_here) kept),
+        refl,
+        refl,
       )) (by_sound (failed_in new))
     where
       not_codepage : (request : Request) → is_reading request ≡ false → is_codepage request ≡ false
       not_codepage asked.codepage is = absurd (cc)
       not_codepage request is = refl
+
+  pub undone : (request : Request) (e : Error) → is_reading request ≡ false → ((end : SessionState) → end.failures ≡ g.failures (medium_in (file_in new)) → IsUndone start request e end)
+      → (failed_in new ≡ true) ⊎ KeepsHeld old new → Leads new letters start request (told.refused e)
+  undone request e unread is kept = (let went = undone_based request e unread is kept in (went.0, went.1, went.2))
 
   -- it took a step and has not failed
   pub stepped : (request : Request) (reply : Reply) (P : PackageContent) → is_commit request ≡ false → StepAs start.sound letters start.held request reply P → failed_in new ≡ false → PackageHasContent new P

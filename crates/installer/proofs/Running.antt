@@ -32,7 +32,7 @@ runs_then letters start mid end (r ∷ rs) second (p ∷ ps) later own marks a b
 runs_then letters start mid end [] second (p ∷ ps) later own marks a b = absurd a
 runs_then letters start mid end (r ∷ rs) second [] later own marks a b = absurd a
 
-behaves_then : (old mid new : Condition) (first second : List Request) (told later : List Reply) → Behaves old first told mid → Behaves mid second later new → Behaves old (first ++ second) (told ++ later) new
+pub behaves_then : (old mid new : Condition) (first second : List Request) (told later : List Reply) → Behaves old first told mid → Behaves mid second later new → Behaves old (first ++ second) (told ++ later) new
 behaves_then old mid new [] second [] later a b = subst (λ c. Behaves c second later new) a b
 behaves_then old mid new (r ∷ rs) second (p ∷ ps) later a b = (a.0, a.1, behaves_then a.0 mid new rs second ps later a.2 b)
 behaves_then old mid new [] second (p ∷ ps) later a b = absurd a
@@ -78,7 +78,7 @@ module _ {D : Type 0} {g : device.Ghosts D} {h : Ghosts (Staged D g)} where
 
 -- ---- commands and the replies that stand behind those before
 
-parts_make : {X : Type 0} (n : ℕ) (xs : List X) → take n xs ++ drop n xs ≡ xs
+pub parts_make : {X : Type 0} (n : ℕ) (xs : List X) → take n xs ++ drop n xs ≡ xs
 parts_make zero [] = refl
 parts_make zero (x ∷ xs) = refl
 parts_make (suc n) [] = refl

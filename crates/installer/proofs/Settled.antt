@@ -210,15 +210,15 @@ after_based old command.commit told.done left sound fits B is =
     inr (subst (λ (P : PackageContent). PackageCanBeWritten P) same one.0, ap (λ (p : PackageContent). p.storages) (sym same))
 after_based old q r left sound fits B is = inl is
 
-undone_based : (old new : SessionState) (q : Request) → KeepsBase old q new → (B : PackageContent) → new.base ≡ Some B → {Holds : Type 0} → (old.base ≡ Some B → Holds) → Holds
-undone_based old new q (inl kept) B b each = each (sym kept ∙ b)
-undone_based old new q (inr cut) B b each = let never : None ≡ Some B = sym cut.1 ∙ b in absurd (cc never)
+undone_based : (old new : SessionState) (q : Request) (e : Error) → KeepsBase old q e new → (B : PackageContent) → new.base ≡ Some B → {Holds : Type 0} → (old.base ≡ Some B → Holds) → Holds
+undone_based old new q e (inl kept) B b each = each (sym kept ∙ b)
+undone_based old new q e (inr cut) B b each = let never : None ≡ Some B = sym cut.2 ∙ b in absurd (cc never)
 
 goes_based : (letters : CaseTable) (old new : SessionState) (q : Request) (r : Reply) → AreFit (marks_of old q r new.phase) → IsBasedOn old.held.storages old → CommandStep letters old q r new → IsBasedOn old.held.storages new
 goes_based letters old new q r fits on (steps run step base yet sound counted) = λ is B b. ⊎_elim
     (λ before. on (sym sound ∙ is) B before) (λ now. now) (after_based old q r new.phase (sym sound ∙ is) fits B (sym base ∙ b))
 goes_based letters old new q r fits on (stays e run is undone page same counted) = λ s B b. on (sym (ap (λ (c : SessionState). c.sound) same) ∙ s) B (sym (ap (λ (c : SessionState). c.base) same) ∙ b)
-goes_based letters old new q r fits on (fails e run is undone unread same base counted) = λ s B b. undone_based old new q base B b (on (sym (ap (λ (c : SessionState). c.sound) same) ∙ s) B)
+goes_based letters old new q r fits on (fails e run is undone unread same base counted) = λ s B b. undone_based old new q e base B b (on (sym (ap (λ (c : SessionState). c.sound) same) ∙ s) B)
 goes_based letters old new q r fits on (refuses run unrolled is same) = λ s B b. on (sym (ap (λ (c : SessionState). c.sound) same) ∙ s) B (sym (ap (λ (c : SessionState). c.base) same) ∙ b)
 goes_based letters old new q r fits on (rolls back goes) = let both = back_based old new r goes in λ s B b. on (sym both.1 ∙ s) B (sym both.0 ∙ b)
 

@@ -31,7 +31,7 @@ module _ {F : Type 0} {g : Ghosts F} where
 
 module _ {D : Type 0} {g : device.Ghosts D} {h : Ghosts (Staged D g)} where
   -- One command of a session over a device: from where it is in its course it goes on by the request's rule, whatever the device and the file
-  -- it behaves, and what a stop leaves is told with the commit that it begins; none begins where the package isn't sound, also where the file
+  -- it behaves, and what a crash leaves is told with the commit that it begins; none begins where the package isn't sound, also where the file
   -- packs none.
   pub record RunsCommand (request : Request) (reply : Reply) (old new : SessionOver (Staged D g) h) : Type 0 where
     pub goes : (start : SessionState) → SessionIsAt old start → (end : SessionState) × CommandStep (session_case_table old) start request reply end × SessionIsAt new end
@@ -42,7 +42,7 @@ module _ {D : Type 0} {g : device.Ghosts D} {h : Ghosts (Staged D g)} where
     pub survives : (start : SessionState) → SessionIsAt old start → SurvivesCrash (session_case_table old) g (device_below old) (device_below new) (marks_of start request reply (phase_of (is_failed new)))
 
   -- THE COMMANDS WERE RUN in order, with a reply for each: from where the session is in its course it goes along them by their rules, and what
-  -- a stop leaves is told with the commits that they begin; whatever the device and the file, they behave; and where the package isn't sound
+  -- a crash leaves is told with the commits that they begin; whatever the device and the file, they behave; and where the package isn't sound
   -- nothing that a recovery gives is changed.
   pub record FollowAll (requests : List Request) (replies : List Reply) (old new : SessionOver (Staged D g) h) : Type 0 where
     pub ran : (start : SessionState) → SessionIsAt old start → (end : SessionState) × (marks : List BegunCommit) × SessionRuns (session_case_table old) start requests replies marks end

@@ -1,4 +1,4 @@
--- What a recovery gives after a call, and after a stop in one.
+-- What a recovery gives after a call, and after a crash in one.
 use Rattle.std.specs.Prelude.{◌≡◌, ◌⊎◌, ◌≤◌, ℕ, false, List, [], ◌∷◌, map, Option, Some, IsTrue}
 use Rattle.cfb_medium.specs.Crashes.{CrashLeavesOnly}
 use Rattle.cfb_tree.specs.Names.{CaseTable}
@@ -34,7 +34,7 @@ abbrev pub AnyList : List ℕ → Type 0
 AnyList bytes = Unit {0}
 
 module _ {D : Type 0} (g : Ghosts D) where
-  -- what a recovery would give of what a stop may leave now, or might have left since a moment
+  -- what a recovery would give of what a crash may leave now, or might have left since a moment
   abbrev pub gives : D → Option (List ℕ) → Type 0
   gives d = GivenBy (g.crash_may_leave d)
 
@@ -45,7 +45,7 @@ module _ {D : Type 0} (g : Ghosts D) where
   listed d bytes = gives d (Some bytes)
 
 module _ (letters : CaseTable) {D : Type 0} (g : Ghosts D) where
-  -- A call that begins these commits. Where a recovery gives a list of whatever a stop may leave when the call begins, then of whatever
+  -- A call that begins these commits. Where a recovery gives a list of whatever a crash may leave when the call begins, then of whatever
   -- one leaves in the call it gives what might be found before, or a package whose commit the call began; and at the call's return
   -- what the commits that were answered leave of these.
   pub record SurvivesCrash (old new : D) (marks : List BegunCommit) : Type 0 where

@@ -25,7 +25,7 @@ module _ {D : Type 0} (g : Ghosts D) (old new : D) (e : Error) where
   abbrev pub IsMalformed : Type 0
   IsMalformed = (e ≡ InvalidData) × (IsTrue (g.honest old) → logged (g.content old) ≡ MalformedLog)
 
--- A malformed log; a home file that isn't empty once recovered; a letter table that touches encoded names; or a fault. On a device that isn't
+-- A malformed log; a home file that isn't empty once recovered; a case table that touches encoded names; or a fault. On a device that isn't
 -- honest, what a new package is refused for over any medium.
 pub record IsSessionCreateError (letters : CaseTable) {D : Type 0} (g : Ghosts D) (old new : D) (e : Error) : Type 0 where
   pub kind : IsMalformed g old new e
@@ -39,4 +39,4 @@ pub record IsSessionOpenError (letters : CaseTable) {D : Type 0} (g : Ghosts D) 
       ⊎ ((bytes : List ℕ) × (recovered (g.content old) ≡ Some bytes) × AreBytesRejected letters bytes e))
   -- on any device
   pub told : IsOpeningError e
-  pub counted : IsCountedFailure g old new e
+  pub fault : IsFreshFault g old new e

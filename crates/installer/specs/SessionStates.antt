@@ -23,7 +23,7 @@ pub data Phase : Type 0 where
 pub record SessionState : Type 0 where
   pub held : PackageContent
   -- to which a roll back leads: that of the last commit that was answered Ok, else the one that was opened; none where there is no such
-  -- one, or once a commit was cut off by a fault from which the session failed
+  -- one, or once a fault of the device cut a commit off in its midst
   pub base : Option PackageContent
   -- how often the device has failed
   pub failures : ℕ
@@ -71,9 +71,9 @@ base_after old request reply = old.base
 abbrev pub IsUndone : SessionState → Request → Error → SessionState → Type 0
 IsUndone old request e new = IsSessionFault old request e new ⊎ ((e ≡ InvalidInput) × IsTooMuch old.held request)
 
--- what leads back stays where the session fails, unless that cut a commit off
-abbrev pub KeepsBase : SessionState → Request → SessionState → Type 0
-KeepsBase old request new = (new.base ≡ old.base) ⊎ ((is_commit request ≡ true) × (new.base ≡ None))
+-- what leads back stays where the session fails, unless a fault of the device cut a commit off
+abbrev pub KeepsBase : SessionState → Request → Error → SessionState → Type 0
+KeepsBase old request e new = (new.base ≡ old.base) ⊎ ((is_commit request ≡ true) × (e ≡ Device) × (new.base ≡ None))
 
 -- where it can be written as it is
 abbrev pub OfFit : Option PackageContent → (PackageContent → Type 0) → Type 0
@@ -100,7 +100,7 @@ pub data CommandStep (letters : CaseTable) (old : SessionState) (request : Reque
   stays : (e : Error) → old.phase ≡ running → reply ≡ told.refused e → IsUndone old request e new → is_codepage request ≡ false
       → new ≡ record old { failures = new.failures } → old.failures ≤ new.failures → CommandStep letters old request reply new
   fails : (e : Error) → old.phase ≡ running → reply ≡ told.refused e → IsUndone old request e new → is_reading request ≡ false
-      → new ≡ record old { failures = new.failures; base = new.base; phase = failed } → KeepsBase old request new → old.failures ≤ new.failures → CommandStep letters old request reply new
+      → new ≡ record old { failures = new.failures; base = new.base; phase = failed } → KeepsBase old request e new → old.failures ≤ new.failures → CommandStep letters old request reply new
   refuses : old.phase ≡ failed → is_roll_back request ≡ false → reply ≡ told.refused Failed → new ≡ old → CommandStep letters old request reply new
   rolls : is_roll_back request ≡ true → SessionRollsBack old reply new → CommandStep letters old request reply new
 

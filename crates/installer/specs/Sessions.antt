@@ -38,6 +38,10 @@ module _ {F : Type 0} {g : Ghosts F} where
   abbrev pub is_failed : SessionOver F g → Bool
   is_failed s = failed_in (package_in s)
 
+  -- a fault of the medium itself has ended it
+  abbrev pub has_medium_failed : SessionOver F g → Bool
+  has_medium_failed s = g.failed (medium_in (file_in (package_in s)))
+
   -- whether its package is sound
   abbrev pub is_sound : SessionOver F g → Bool
   is_sound s = sound_in (package_in s)

@@ -5,6 +5,7 @@ ghost use Rattle.installer.specs.CommandRuns.{AreAnswered, FollowAll, ResumesFro
 ghost use Rattle.installer.specs.Groups.{all_done, inserts_of};
 ghost use Rattle.installer.specs.Reply as told;
 ghost use Rattle.installer.specs.RepliesOf.{reply_of};
+ghost use Rattle.installer.specs.FirstRefusal.{AnswersToRefusal};
 ghost use Rattle.msi_changes.specs.Said.{insert_name, insert_rows};
 ghost use Rattle.msi_joined.specs.Joined.{joined_rows};
 ghost use Rattle.msi_values.specs.Datum.{Datum};
@@ -154,6 +155,47 @@ impl<D: Device> SessionOver<Staged<D>> {
             Err(error) => {
                 answers.push_reserved(Answer::Refused(error));
                 self.answer_all(&commands[1..], answers);
+            }
+        }
+    }
+
+    // Runs commands in order up to the first that is refused, with an answer for each that was run behind those that are there: whether
+    // none was refused.
+    pub(crate) fn answer_to_refusal(
+        &mut self,
+        commands: &[Command],
+        answers: &mut Vec<Answer>,
+    ) -> bool
+        requires room { vec_len answers.old + length commands.now ≤ vec_capacity answers.old }
+        ensures capacity { vec_capacity answers.new ≡ vec_capacity answers.old }
+        ensures len { vec_len answers.new ≤ vec_len answers.old + length commands.now }
+        ensures ran { AnswersToRefusal result (map request_of commands.now)
+            (map reply_of answers.old.items) (map reply_of answers.new.items) self.old self.new }
+    {
+        if commands.is_empty() {
+            return true;
+        }
+        if commands.len() == 1 {
+            let answer = self.answer(&commands[0]);
+            let is_refusal = answer.is_refusal();
+            answers.push_reserved(answer);
+            return !is_refusal;
+        }
+        match self.insert_all(commands) {
+            Ok(true) => {
+                push_done(commands, answers);
+                true
+            }
+            Ok(false) => {
+                let (first, second) = commands.split_at(cut_of(commands));
+                if !self.answer_to_refusal(first, answers) {
+                    return false;
+                }
+                self.answer_to_refusal(second, answers)
+            }
+            Err(error) => {
+                answers.push_reserved(Answer::Refused(error));
+                false
             }
         }
     }

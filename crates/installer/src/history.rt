@@ -10,8 +10,8 @@ ghost use Rattle.installer.specs.History.{Event, Happen};
 
 use staged::Device;
 
-/// Committed packages survive. A device on which a recovery gives a list of whatever a stop may leave goes through calls of sessions and
-/// recoveries, which return or are stopped at any moment, also in a recovery of a recovery. Whatever a stop may then leave, a recovery
+/// Committed packages survive. A device on which a recovery gives a list of whatever a crash may leave goes through calls of sessions and
+/// recoveries, which return or crash at any moment, also in a recovery of a recovery. Whatever a crash may then leave, a recovery
 /// gives bytes that hold the package of the last commit that was answered `Ok`, or of one that was begun since, sound, where it can be
 /// written as it is; or, where none was answered `Ok`, a list that it might have given at first. After a recovery that succeeded the home
 /// file is such a list.
@@ -28,7 +28,7 @@ pub fn committed_packages_survive<D: Device>()
         → MayBeRecovered letters (listed D.Device first) marks (D.content last).home }
 {}
 
-/// A recovery is an event of that law, whatever it answers: what its contract says of honesty, failures and stops is all that it takes.
+/// A recovery is an event of that law, whatever it answers: what its contract says of honesty, failures and crashes is all that it takes.
 pub fn recoveries_survive<D: Device>()
     ensures { (letters : CaseTable) (old new : D) → D.honest new ≡ D.honest old
         → D.failures old ≤ D.failures new → (IsTrue (D.honest old)

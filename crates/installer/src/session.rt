@@ -7,6 +7,7 @@ ghost use Rattle.installer.specs.CommandRuns.{FollowAll, RunsCommand};
 ghost use Rattle.installer.specs.Refusals.{IsSessionCreateError, IsSessionOpenError};
 ghost use Rattle.installer.specs.RepliesOf.{reply_of};
 ghost use Rattle.installer.specs.Step.{told_of};
+ghost use Rattle.installer.specs.FirstRefusal.{RunsToRefusal};
 ghost use Rattle.installer.specs.CrashSurvival.{IsRecovered, SurvivesCrash};
 ghost use Rattle.msi.specs.Changing.{PackageCanBeWritten};
 ghost use Rattle.msi.specs.Committing.{BytesHoldPackage};
@@ -40,7 +41,7 @@ pub struct SessionOver<F: Medium> {
     pub(crate) has_base: bool,
 }
 
-/// A session over the two files of a device, which survives a stop at any moment.
+/// A session over the two files of a device, which survives a crash at any moment.
 pub type Session<D> = SessionOver<Staged<D>>;
 
 impl<F: Medium> SessionOver<F> {
@@ -81,11 +82,11 @@ impl<F: Medium> SessionOver<F> {
 }
 
 impl<D: Device> SessionOver<Staged<D>> {
-    ghost use Rattle.installer.specs.Sessions.{beginning, device_below, has_base, is_failed, is_sound, session_case_table, package_in, SessionIsAt};
+    ghost use Rattle.installer.specs.Sessions.{beginning, device_below, has_base, has_medium_failed, is_failed, is_sound, session_case_table, package_in, SessionIsAt};
 
-    /// Recovers, and begins a new installer package on an empty home file, whose names are compared under the letter table; nothing
+    /// Recovers, and begins a new installer package on an empty home file, whose names are compared under the case table; nothing
     /// is committed. `InvalidData` for a malformed log, which leaves both files; `AlreadyExists` where the home file isn't empty;
-    /// `InvalidInput` where the letter table has a pair with a character from U+3800 to U+4840; then as `Package::create` is refused.
+    /// `InvalidInput` where the case table has a pair with a character from U+3800 to U+4840; then as `Package::create` is refused.
     /// An error hands the device back.
     pub fn create(
         alloc: Global,
@@ -126,9 +127,9 @@ impl<D: Device> SessionOver<Staged<D>> {
         }
     }
 
-    /// Recovers, and goes on with the package of the home file, whose names are compared under the letter table. `InvalidData` for a
+    /// Recovers, and goes on with the package of the home file, whose names are compared under the case table. `InvalidData` for a
     /// malformed log, which leaves both files; then as `Package::open` is refused. An error hands the device back. A package that isn't
-    /// sound is read alone. A package that a session committed under this letter table, where it can be written as it is, is opened as
+    /// sound is read alone. A package that a session committed under this case table, where it can be written as it is, is opened as
     /// the same one, sound, unless there is a fault.
     pub fn open(
         alloc: Global,
@@ -174,7 +175,7 @@ impl<D: Device> SessionOver<Staged<D>> {
     /// Runs commands in order, with an answer for each. Inserts into one table that follow one another are carried out as one, if all of
     /// them are done by that; what is answered, and what is held then, is the same. `Memory` where there is no room for the answers: then
     /// none was run. On every device, also one that lies, and whatever the file holds, `Device` and `Failed` are answered only where there
-    /// was such a fault. No command of a package that isn't sound changes what a recovery gives. Letter table and soundness stay.
+    /// was such a fault. No command of a package that isn't sound changes what a recovery gives. Case table and soundness stay.
     pub fn run(&mut self, commands: &[Command]) -> Result<Vec<Answer>, Error>
         ensures followed { IfOk result (λ answers. FollowAll (map request_of commands.now)
             (map reply_of answers.items) self.old self.new) }
@@ -182,6 +183,17 @@ impl<D: Device> SessionOver<Staged<D>> {
     {
         let mut answers = Vec::with_capacity(self.alloc, commands.len())?;
         self.answer_all(commands, &mut answers);
+        Ok(answers)
+    }
+
+    /// Runs commands in order up to the first that is refused, which is run, too, with an answer for each that was run. Else as `run`.
+    pub fn run_to_refusal(&mut self, commands: &[Command]) -> Result<Vec<Answer>, Error>
+        ensures ran { IfOk result (λ answers. RunsToRefusal (map request_of commands.now)
+            (map reply_of answers.items) self.old self.new) }
+        ensures none_ran { IfErr result (λ e. (e ≡ error.Memory) × (self.new ≡ self.old)) }
+    {
+        let mut answers = Vec::with_capacity(self.alloc, commands.len())?;
+        self.answer_to_refusal(commands, &mut answers);
         Ok(answers)
     }
 
@@ -228,7 +240,7 @@ impl<D: Device> SessionOver<Staged<D>> {
         }
     }
 
-    /// Publishes the package: after `Ok` the log is closed, and whatever a stop leaves, a recovery gives bytes that hold it, where it can
+    /// Publishes the package: after `Ok` the log is closed, and whatever a crash leaves, a recovery gives bytes that hold it, where it can
     /// be written as it is; of a package that isn't sound nothing is written. `Failed` where the session has failed before; else as
     /// `Package::commit` is refused: then either all is as it was and nothing was published, or the session has failed.
     pub fn commit(&mut self) -> Result<(), Error>
@@ -242,31 +254,10 @@ impl<D: Device> SessionOver<Staged<D>> {
         if self.has_failed() {
             return Err(Error::Failed);
         }
-        if self.is_sound() {
-            return self.flush_and_publish();
-        }
         self.publish()
     }
 
-    // Publishes a sound package. What keeps it from being flushed leaves a package to which to go back.
-    fn flush_and_publish(&mut self) -> Result<(), Error>
-        requires live { is_failed self.old ≡ false }
-        requires sound { is_sound self.old ≡ true }
-        ensures follows { RunsCommand asked.commit (told_of result) self.old self.new }
-        ensures published { OnOk result
-            ((P : PackageContent) → PackageHasContent (package_in self.old) P
-            → IsTrue (is_sound self.old) → (bytes : List ℕ)
-            × HasPublished D.Device (device_below self.new) bytes
-            × IsRecovered (session_case_table self.old) bytes P) }
-    {
-        match self.write_out() {
-            Ok(()) => self.publish(),
-            Err(error) => Err(error),
-        }
-    }
-
-    // Publishes what was flushed. Where that fails the session a fault may have cut it off in the midst of writing, so that nothing is known
-    // to which to go back.
+    // Flushes and publishes. Where a fault of the medium has cut that off in its midst, nothing is known to which to go back.
     fn publish(&mut self) -> Result<(), Error>
         requires { is_failed self.old ≡ false }
         ensures follows { RunsCommand asked.commit (told_of result) self.old self.new }
@@ -285,14 +276,14 @@ impl<D: Device> SessionOver<Staged<D>> {
 
     // Whether there is a package to which to go back, after a commit that was done or not.
     fn has_base_after(&self, is_done: bool) -> bool
-        ensures { result ≡ (not (is_failed self.now) && (has_base self.now || is_done)) }
+        ensures { result ≡ (not (has_medium_failed self.now) && (has_base self.now || is_done)) }
     {
-        !self.has_failed() && (self.has_base || is_done)
+        !self.package.has_medium_failed() && (self.has_base || is_done)
     }
 
     /// Goes back to the package that was committed last, or else to the one that was opened, also after a fault: what was changed since is
     /// gone, and all is read again. `NotFound` in a new session before its first commit, or `Failed` where that has failed; `Failed`, too,
-    /// where a fault has cut a commit off in the midst of writing: then nothing is changed. `Memory` and `Device`: then all is as it was, or the
+    /// where a fault of the device has cut a commit off in its midst: then nothing is changed. `Memory` and `Device`: then all is as it was, or the
     /// session has failed, and may be rolled back again. Of a package that isn't sound nothing was changed, so nothing is read. Nothing is
     /// written, and nothing is published.
     pub fn roll_back(&mut self) -> Result<(), Error>

@@ -138,3 +138,15 @@ module _ {F : Type 0} {k : medium.Ghosts F} (before after : Package F k) {D : Ty
     where
       same : recovered (g.content old) ≡ Some [] → bytes ≡ []
       same empty = let is : Some bytes ≡ Some [] = sym given ∙ empty in cc
+
+-- a package that isn't sound isn't copied
+pub never_copied : {F : Type 0} {k : medium.Ghosts F} (source new : Package F k) (honest : Type 0) (bytes : List ℕ) (u : Unit {0}) → PackageCopies honest bytes (Ok u) source new → sound_in source ≡ false → ⊥
+never_copied source new honest bytes u c unsound = by (failed_in source) refl
+  where
+    by : (failed : Bool) → failed_in source ≡ failed → ⊥
+    by true failed = let never = (c.failed failed).0 in cc never
+    by false live = let never = (c.unsound live unsound).0 in cc never
+
+-- the same between equal devices
+pub survives_between : {D : Type 0} (g : Ghosts D) (letters : CaseTable) (a b c d : D) → a ≡ b → d ≡ c → SurvivesCrash letters g a c [] → SurvivesCrash letters g b d []
+survives_between {D} g letters a b c d first last survives = subst (λ (x : D). SurvivesCrash letters g b x []) (sym last) (subst (λ (x : D). SurvivesCrash letters g x c []) first survives)

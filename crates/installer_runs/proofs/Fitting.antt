@@ -1,17 +1,19 @@
 -- Commits that are kept back among commands that are followed.
-use Rattle.std.proofs.Common.{◌≡◌, ◌∙◌, ◌↔◌, ◌||◌, Bool, true, false, not, List, [], ◌∷◌, ◌++◌, inl, inr, ⊎_elim, refl, sym, ap, subst, append_assoc}
+use Rattle.std.proofs.lemmas.Bool.{both_ways}
+use Rattle.std.proofs.Common.{arith, ◌≡◌, ◌∙◌, ◌↔◌, ◌||◌, Bool, true, false, not, List, [], ◌∷◌, ◌++◌, inl, inr, ⊎_elim, refl, sym, ap, subst, append_assoc}
 use Rattle.std.specs.Prelude.{IsTrue}
 use Rattle.cfb_medium.specs.declared.error.Error.TheVariants.{InvalidInput}
 use Rattle.cfb_medium.specs.declared.medium.ReadMedium as medium
 use Rattle.cfb_tree.specs.Names.{CaseTable}
 use Rattle.command_file.specs.Request.{Request, is_commit}
 use Rattle.command_file.specs.Request as asked
+use Rattle.installer.proofs.Running.{behaves_then}
 use Rattle.installer.proofs.Stopping.{survives_then}
 use Rattle.installer.specs.SessionStates.{SessionState, BegunCommit, SessionRuns, marks_of, running}
 use Rattle.installer.specs.CommandRuns.{FollowAll}
 use Rattle.installer.specs.Reply.{Reply}
 use Rattle.installer.specs.Reply as told
-use Rattle.installer.specs.Sessions.{device_below, is_failed, is_sound, session_case_table, package_in, phase_of, SessionIsAt}
+use Rattle.installer.specs.Sessions.{condition_of, device_below, is_failed, is_sound, session_case_table, package_in, phase_of, SessionIsAt}
 use Rattle.installer.specs.CrashSurvival.{SurvivesCrash}
 use Rattle.installer.specs.declared.session.SessionOver.{SessionOver}
 use Rattle.installer_runs.specs.Runs.{has_commit, CommitsFit, GoesFit, IsSlice, KeepsBack, LetsPass, RunsFit}
@@ -65,7 +67,7 @@ is_live true is = absurd (cc is)
 
 module _ {D : Type 0} {g : Ghosts D} {h : medium.Ghosts (Staged D g)} where
   pub fit_none : (it : SessionOver (Staged D g) h) → SurvivesCrash (session_case_table it) g (device_below it) (device_below it) [] → GoesFit [] [] it it
-  fit_none it stay = record { ran = λ start at. (start, [], (refl, refl), at, stay); letters = refl; still = λ _. stay; sound = refl }
+  fit_none it stay = record { ran = λ start at. (start, [], (refl, refl), at, stay); letters = refl; behaves = refl; still = λ _. stay; sound = refl }
 
   pub goes_fit_then : (first second : List Request) (told later : List Reply) (old mid new : SessionOver (Staged D g) h) → GoesFit first told old mid → GoesFit second later mid new → GoesFit (first ++ second) (told ++ later) old new
   goes_fit_then first second told later old mid new a b = record {
@@ -81,6 +83,7 @@ module _ {D : Type 0} {g : Ghosts D} {h : medium.Ghosts (Staged D g)} where
           survives_then (session_case_table old) g (device_below old) (device_below mid) (device_below new) before.1 on.1 before.4 own,
         );
     letters = b.letters ∙ a.letters;
+    behaves = behaves_then (condition_of old) (condition_of mid) (condition_of new) first second told later a.behaves b.behaves;
     still = λ unsound.
         let own = subst (λ (l : CaseTable). SurvivesCrash l g (device_below mid) (device_below new) []) a.letters (b.still (a.sound ∙ unsound)) in
         survives_then (session_case_table old) g (device_below old) (device_below mid) (device_below new) [] [] (a.still unsound) own;
@@ -108,6 +111,20 @@ module _ {D : Type 0} {g : Ghosts D} {h : medium.Ghosts (Staged D g)} where
           stay,
         );
     letters = refl;
+    behaves = (
+      condition_of it,
+      record {
+        ended = λ failed _. absurd (both_ways (is_failed it) keeps.0 failed);
+        live = λ _ is. absurd (cc is);
+        device = λ is. absurd (cc is);
+        reading = λ is. absurd (cc is);
+        codepage = λ _ is. absurd (cc is);
+        unsound = λ _ _ is. absurd (cc is);
+        sound = refl;
+        counted = omega arith;
+      },
+      refl,
+    );
     still = λ _. stay;
     sound = refl;
   }
@@ -118,6 +135,7 @@ module _ {D : Type 0} {g : Ghosts D} {h : medium.Ghosts (Staged D g)} where
     ran = λ start at.
         let on = follow.ran start at in (on.0, on.1, fits start at on.0 on.1 on.2, on.3, on.4);
     letters = follow.letters;
+    behaves = follow.behaves;
     still = follow.still;
     sound = follow.sound;
   }

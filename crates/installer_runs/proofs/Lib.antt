@@ -1,6 +1,10 @@
 pub mod Fitting
+pub mod Hearing
 pub mod Along
+pub mod Holding
 pub mod Whole
 pub mod Copied
 pub mod Made
 pub mod Parting
+pub mod Slicing
+pub mod Refusing

@@ -4,11 +4,11 @@ use Rattle.command_file.specs.Request.{Request, is_commit}
 use Rattle.command_file.specs.Request as asked
 use Rattle.installer_runs.specs.Runs.{has_commit, is_alone, IsSlice}
 
-first_of_both : (a b : Bool) → (a || b) ≡ false → a ≡ false
+pub first_of_both : (a b : Bool) → (a || b) ≡ false → a ≡ false
 first_of_both false b none = refl
 first_of_both true b none = absurd (cc none)
 
-second_of_both : (a b : Bool) → (a || b) ≡ false → b ≡ false
+pub second_of_both : (a b : Bool) → (a || b) ≡ false → b ≡ false
 second_of_both false b none = none
 second_of_both true b none = absurd (cc none)
 

@@ -6,11 +6,11 @@ ghost use Rattle.cfb_mini.specs.Views.{allocator_of};
 ghost use Rattle.installer.specs.Refusals.{IsFreshFault};
 ghost use Rattle.installer.specs.CrashSurvival.{SurvivesCrash};
 ghost use Rattle.installer_runs.specs.Copying.{CopiesOn, IsPackageCopied, IsCopyRefusal, IsUncopied, CopySurvivesCrash};
-ghost use Rattle.msi.specs.Opened.{file_in, PackageHasContent};
+ghost use Rattle.msi.specs.Opened.{file_in, sound_in, PackageHasContent};
 ghost use Rattle.msi_spec.specs.Package.{PackageContent};
 ghost use Rattle.staged.specs.Log.{recovered};
 ghost use Rattle.staged.specs.Staged.{device_of, is_failed, staged_bytes, IsStagedHonest};
-ghost use Rattle.std.specs.Prelude.{◌≡◌, ◌⊎◌, ◌≤◌, List, [], Some, false, IfErr, IsTrue, OnOk};
+ghost use Rattle.std.specs.Prelude.{◌≡◌, ◌⊎◌, ◌≤◌, List, [], Some, false, is_ok, IfErr, IsTrue, OnOk};
 
 use cfb_medium::{Error, Medium, ReadMedium};
 use installer::recovered_medium;
@@ -19,9 +19,10 @@ use staged::{Device, Staged};
 use std::alloc::Global;
 
 /// Recovers, commits a copy of a sound package to an empty home file, and gives the device back. After `Ok` the home file has bytes that
-/// hold the package, sound, where its texts fit their page, and the log is closed. Whatever is answered, a stop at any moment leaves what
+/// hold the package, sound, where its texts fit their page, and the log is closed. Whatever is answered, a crash at any moment leaves what
 /// one might have left before, or the copy; and where the home file, once recovered, isn't empty, nothing that a recovery gives is
-/// changed. `AlreadyExists` where the home file isn't empty, `InvalidData` for a malformed log, and where the package isn't sound;
+/// changed. `AlreadyExists` where the home file isn't empty, `InvalidData` for a malformed log. A package that isn't sound is
+/// never copied, and then nothing that a recovery gives is changed: `InvalidData`, or an earlier refusal;
 /// `InvalidInput` where a part of it is too long to be written; else `Memory`, `Full`, or `Device` and `Failed` by a fault of one of the
 /// two devices.
 pub fn copy_on<D: Device, F: Medium>(
@@ -38,6 +39,9 @@ pub fn copy_on<D: Device, F: Medium>(
     ensures refused_only_if { IsTrue (D.honest device) → (P : PackageContent)
         → PackageHasContent source.old P
         → IfErr result.1 (IsCopyRefusal source.old source.new D.Device device result.0) }
+    ensures unsound { sound_in source.old ≡ false → is_ok result.1 ≡ false }
+    ensures left { IsTrue (D.honest device) → sound_in source.old ≡ false
+        → SurvivesCrash (file_case_table (file_in source.old)) D.Device device result.0 [] }
 {
     match recovered_medium(alloc, device) {
         Ok(medium) => copy_over(source, medium),
@@ -65,6 +69,10 @@ fn copy_over<D: Device, F: Medium>(
         (allocator_of (mini_of (file_in source.new))) e
         ⊎ IsFreshFault D.Device (device_of medium) result.0 e) }
     ensures counted { D.failures (device_of medium) ≤ D.failures result.0 }
+    ensures unsound { sound_in source.old ≡ false → is_ok result.1 ≡ false }
+    ensures left { IsStagedHonest medium → sound_in source.old ≡ false
+        → SurvivesCrash (file_case_table (file_in source.old)) D.Device
+        (device_of medium) result.0 [] }
 {
     let mut medium = medium;
     match medium.len() {
@@ -94,6 +102,10 @@ fn commit_copy<D: Device, F: Medium>(
         (allocator_of (mini_of (file_in source.new))) e
         ⊎ IsFreshFault D.Device (device_of medium.old) (device_of medium.new) e) }
     ensures counted { D.failures (device_of medium.old) ≤ D.failures (device_of medium.new) }
+    ensures unsound { sound_in source.old ≡ false → is_ok result ≡ false }
+    ensures left { IsStagedHonest medium.old → sound_in source.old ≡ false
+        → SurvivesCrash (file_case_table (file_in source.old)) D.Device
+        (device_of medium.old) (device_of medium.new) [] }
 {
     match source.copy_to(medium) {
         Ok(()) => medium.commit(),

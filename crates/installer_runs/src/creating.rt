@@ -13,11 +13,11 @@ use installer::{Session, SessionOver};
 use staged::{Device, Staged};
 use std::alloc::Global;
 
-/// Recovers, makes a new installer package on an empty home file, whose names are compared under the letter table, commits it, and gives
+/// Recovers, makes a new installer package on an empty home file, whose names are compared under the case table, commits it, and gives
 /// the device back. After `Ok` the home file has bytes that hold the new package, sound, and the log is closed. Whatever is answered, a
-/// stop at any moment leaves what one might have left before, or the new package; and where the home file, once recovered, isn't empty,
+/// crash at any moment leaves what one might have left before, or the new package; and where the home file, once recovered, isn't empty,
 /// nothing that a recovery gives is changed. Refused as `Session::create` is, and where the commit behind it meets a fault: `AlreadyExists`
-/// where the home file isn't empty, `InvalidData` for a malformed log, `InvalidInput` for a letter table that touches encoded names; else
+/// where the home file isn't empty, `InvalidData` for a malformed log, `InvalidInput` for a case table that touches encoded names; else
 /// `Memory`, `Full`, or `Device` and `Failed` by a fault of the device.
 pub fn create_on<D: Device>(alloc: Global, device: D, letters: CaseMapper) -> (D, Result<(), Error>)
     ensures made { IsTrue (D.honest device)

@@ -3,9 +3,11 @@
 
 mod copying;
 mod creating;
+mod listener;
 mod running;
 mod slices;
 
 pub use copying::copy_on;
 pub use creating::create_on;
-pub use running::{Ending, Listener, run_on};
+pub use listener::Listener;
+pub use running::{Ending, Until, run_on};

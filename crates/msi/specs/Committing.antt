@@ -1,4 +1,4 @@
--- What a commit publishes of a package, and what a stop may leave of it.
+-- What a commit publishes of a package, and what a crash may leave of it.
 use Rattle.std.specs.Prelude.{◌≡◌, ◌⊎◌, ℕ, false, true, IfErr, IsErrOf, IsTrue, List, Ok, OnErr, OnOk, Result, Some}
 use Rattle.cfb.specs.Publishing.{medium_in}
 use Rattle.cfb.specs.Views.{file_case_table, mini_of}
@@ -54,7 +54,7 @@ module _ {F : Type 0} {g : Ghosts F} where
     pub quiet : IfErr result (λ e. ((g.failed (medium_in (file_in new)) ≡ true) × ((e ≡ Device) ⊎ (e ≡ Failed))) ⊎ KeepsFileInvariants (allocator_of (mini_of (file_in old))) (allocator_of (mini_of (file_in new))))
     pub seen : (file_case_table (file_in new) ≡ file_case_table (file_in old)) × (sound_in new ≡ sound_in old)
 
-  -- a stop at a moment since the old state leaves what one might have left by then, or bytes that hold the package that was held
+  -- a crash at a moment since the old state leaves what one might have left by then, or bytes that hold the package that was held
   abbrev pub CrashLeavesOldOrHeld : Package F g → Package F g → Type 0
   CrashLeavesOldOrHeld old new = CrashLeavesOnly g.moment g.crash_left_since (medium_in (file_in old)) (medium_in (file_in new))
       (λ left. g.crash_may_leave (medium_in (file_in old)) left ⊎ ((bytes : List ℕ) × (left ≡ Some bytes) × HoldWhatWasHeld old bytes))

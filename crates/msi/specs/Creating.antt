@@ -23,7 +23,7 @@ use Rattle.msi.specs.declared.package.Package.{Package}
 abbrev pub new_file_len : ℕ
 new_file_len = 12288
 
--- why none is made over an honest medium without more bytes than a new container has: by this letter table, or a fault
+-- why none is made over an honest medium without more bytes than a new container has: by this case table, or a fault
 abbrev pub IsNewRefusal : CaseTable → Error → Type 0
 IsNewRefusal letters e = ((e ≡ InvalidInput) × (keeps_encoded_names letters ≡ false)) ⊎ IsFaultOrFull e
 

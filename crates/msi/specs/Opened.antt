@@ -43,7 +43,7 @@ abbrev pub IsSoundFile : CaseTable → List ℕ → Type 0
 IsSoundFile letters bytes = IsSoundContainer letters bytes
     × (tree : Tree) × BytesMeanTree letters bytes tree × (P : PackageContent) × (packs : TreePacksPackage letters tree P) × IsSoundPackage letters tree P packs
 
--- WHY BYTES ARE REFUSED: the letter table touches encoded names; the container can't be opened; or each tree that they show is refused
+-- WHY BYTES ARE REFUSED: the case table touches encoded names; the container can't be opened; or each tree that they show is refused
 -- so, or a stream that opening reads breaks, which is broken data
 abbrev pub AreBytesRejected : CaseTable → List ℕ → Error → Type 0
 AreBytesRejected letters bytes e =
@@ -103,7 +103,7 @@ module _ {F : Type 0} {g : Ghosts F} where
     pub sound : IsTrue (sound_in it) → FileMeansTree (file_in it) tree × StoresSoundPackage (file_case_table (file_in it)) tree P
     pub back : IsTrue (sound_in it) → (pool_in it).modified ≡ false → written_in it ≡ true → IsWritable P.pool → SummaryIsFit P.summary → GivesBack (file_case_table (file_in it)) tree
 
-  -- Opened over these bytes under this letter table: kind, summary and pool are those that each tree tells that they show, and so are the
+  -- Opened over these bytes under this case table: kind, summary and pool are those that each tree tells that they show, and so are the
   -- tables; each package that the tree packs that they mean is held; and it was judged exactly whether they hold a sound package.
   pub record IsOpenedPackage (letters : CaseTable) (bytes : List ℕ) (it : Package F g) : Type 0 where
     pub compared : file_case_table (file_in it) ≡ letters

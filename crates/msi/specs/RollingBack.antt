@@ -19,7 +19,7 @@ abbrev pub AreJudgedOtherwise : Bool → CaseTable → List ℕ → Type 0
 AreJudgedOtherwise sound letters bytes = (IsTrue sound ↔ IsSoundFile letters bytes) → ⊥
 
 module _ {F : Type 0} {g : Ghosts F} (has_published : F → List ℕ → Type 0) (old : Package F g) where
-  -- so it is of the letter table, if packages may have such a one, and the bytes that an honest medium had published last
+  -- so it is of the case table, if packages may have such a one, and the bytes that an honest medium had published last
   abbrev pub OfPublishedPackage : (CaseTable → List ℕ → Type 0) → Type 0
   OfPublishedPackage P =
       keeps_encoded_names (file_case_table (file_in old)) ≡ true → OfPublished has_published (file_in old) (P (file_case_table (file_in old)))
@@ -32,7 +32,7 @@ module _ {F : Type 0} {g : Ghosts F} (has_published : F → List ℕ → Type 0)
     pub bytes : OfPublished has_published (file_in old) (λ published. bytes_of (allocator_of (mini_of (file_in new))) ≡ published)
     pub opened : OfPublishedPackage (λ letters published. IsOpenedPackage letters published new)
 
-  -- A fault; `InvalidInput` of a medium that doesn't survive a stop; why opening refuses the published bytes; or that these are judged
+  -- A fault; `InvalidInput` of a medium that doesn't survive a crash; why opening refuses the published bytes; or that these are judged
   -- otherwise than the package is.
   pub record IsNoWayBack (mortal : Type 0) (e : Error) : Type 0 where
     pub told : OfPublishedPackage (λ letters published. IsFaultOrInvalidInputIf mortal e ⊎ (AreBytesRejected letters published e

@@ -22,7 +22,7 @@ use msi_store::read_parts;
 use std::alloc::Global;
 
 /// The rules of a sound package that this one breaks, in the order of `Defect`: none exactly where `Package::open` over the medium is a
-/// sound package. It opens the package as that does under the letter table, and is refused just so: `InvalidInput` where the table has
+/// sound package. It opens the package as that does under the case table, and is refused just so: `InvalidInput` where the table has
 /// a pair with a character from U+3800 to U+4840; `InvalidData` where the container can't be opened; `NotFound`, `InvalidData` or
 /// `UnexpectedEof` of the parts that opening reads. Other errors are faults. The rows of one table are in memory at a time. The medium
 /// is only read, and comes back.

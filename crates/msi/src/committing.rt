@@ -13,10 +13,10 @@ use crate::package::Package;
 use cfb_medium::{Error, Medium};
 
 impl<F: Medium> Package<F> {
-    /// Flushes the package, and publishes its bytes by a commit of the medium: a stop then leaves these alone, which are opened again as
-    /// this package, sound, where each text fits its page (`texts_fit`). Of a package without a change the bytes stay. A stop during
+    /// Flushes the package, and publishes its bytes by a commit of the medium: a crash then leaves these alone, which are opened again as
+    /// this package, sound, where each text fits its page (`texts_fit`). Of a package without a change the bytes stay. A crash during
     /// the call, or after an error, leaves what one might have left before it, or these bytes; no other call of a package adds to
-    /// what a stop may leave. `Failed` after an earlier fault. Of a package that isn't sound nothing is written or published.
+    /// what a crash may leave. `Failed` after an earlier fault. Of a package that isn't sound nothing is written or published.
     /// `InvalidInput` where a text or a stream would be too long; the other errors are faults, `Full` among them as `flush` is answered
     /// so. After an error the package holds what it held, or has failed; and nothing is published, unless the medium itself failed in
     /// the midst of its commit, which is `Device`.

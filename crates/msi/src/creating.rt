@@ -19,8 +19,8 @@ use std::alloc::Global;
 
 impl<F: Medium> Package<F> {
     /// Makes a new package over what a medium holds, in a container of version 4: it has the three tables that describe others, and a
-    /// title that says what it is; names are compared under the letter table. Pool and summary are written too, and nothing is
-    /// published before a commit. `InvalidInput` where the letter table has a pair with a character from U+3800 to U+4840, which
+    /// title that says what it is; names are compared under the case table. Pool and summary are written too, and nothing is
+    /// published before a commit. `InvalidInput` where the case table has a pair with a character from U+3800 to U+4840, which
     /// encoded names have. The other errors are `Memory`, `Device`, `Failed` and `Full`; where the medium held more bytes than a new
     /// container has, or doesn't give back what was written, `InvalidData` too, and what `CompoundFile::put_stream` refuses. An error
     /// gives the medium back, which may then hold a part of the new package.

@@ -36,7 +36,7 @@ pub fn open<R: Files<File = File>>(
     }
 }
 
-/// Opens the package at a path of the disk, to be read and changed. It is changed in its place: a stop may leave anything of it. Errors
+/// Opens the package at a path of the disk, to be read and changed. It is changed in its place: a crash may leave anything of it. Errors
 /// are those of `open`, and `Device` also where it may not be written, or another program has it.
 pub fn open_rw<R: Files<File = File>>(
     rt: &R,

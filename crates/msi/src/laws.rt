@@ -12,7 +12,7 @@ use crate::package::Package;
 use cfb_medium::ReadMedium;
 
 /// Bytes that a commit published of a package mean this package and no other, and are a sound file. Opening them is refused by no rule;
-/// and what is opened over them, under the same letter table, holds this very package, and is sound: it may be changed again.
+/// and what is opened over them, under the same case table, holds this very package, and is sound: it may be changed again.
 pub fn committed_packages_open_again<F: ReadMedium>()
     ensures meant { (letters : CaseTable) (bytes : List ℕ) (P : PackageContent)
         → BytesHoldPackage letters bytes P

@@ -171,4 +171,11 @@ impl<F: Medium> Package<F> {
     {
         self.store.file.has_failed()
     }
+
+    /// Whether a fault has left the medium itself in a state in which every call is refused, and `roll_back` with them.
+    pub fn has_medium_failed(&self) -> bool
+        ensures { result ≡ F.failed (medium_of (allocator_of (mini_of (file_in self.now)))) }
+    {
+        self.store.file.has_medium_failed()
+    }
 }

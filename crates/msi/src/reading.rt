@@ -64,7 +64,7 @@ pub(crate) fn read_stream<F: ReadMedium>(
     }
 }
 
-/// Whether there is a digital signature. A letter table under which its name is the summary's leaves it none. It takes no memory.
+/// Whether there is a digital signature. A case table under which its name is the summary's leaves it none. It takes no memory.
 pub(crate) fn has_digital_signature<F: ReadMedium>(file: &CompoundFile<F>) -> bool
     ensures { (tree : Tree) → FileHoldsTree file.now tree → (P : PackageContent)
         → TreeStoresRest (file_case_table file.now) tree P

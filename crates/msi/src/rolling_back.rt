@@ -18,8 +18,8 @@ use msi_parts::PackageParts;
 
 impl<F: Medium> Package<F> {
     /// Goes back to the package that was committed last, or else to the one that was opened, also after a fault: what was changed since
-    /// is gone, and all is read again from the bytes that were published last, under the same letter table. `InvalidInput` where the
-    /// medium doesn't survive a stop, `Failed` where it has failed, `Memory` and `Device`; then as `open` refuses those bytes, and
+    /// is gone, and all is read again from the bytes that were published last, under the same case table. `InvalidInput` where the
+    /// medium doesn't survive a crash, `Failed` where it has failed, `Memory` and `Device`; then as `open` refuses those bytes, and
     /// `InvalidData` where they hold a sound package and this one isn't sound, or the other way: so it never is where a commit published
     /// them. After an error all is as it was, or the package has failed, and may be taken back again. Nothing is written, and nothing is
     /// published.

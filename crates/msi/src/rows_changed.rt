@@ -16,8 +16,8 @@ use msi_changes::{Delete, Update};
 impl<F: Medium> Package<F> {
     /// Gives cells of a table new values. `Failed` after an earlier fault, `InvalidData` where the package isn't sound; then `NotFound`
     /// where no table has the name, and `InvalidInput` or `AlreadyExists` as the rules of updates say; of the three tables that describe
-    /// others only the descriptions in `_Validation` can be set. The other errors are faults, as for inserts. The rows are written to the file; their
-    /// texts are counted in memory, and written by a flush. After an error nothing is changed, or the package has failed.
+    /// others only the descriptions in `_Validation` can be set. The other errors are faults, as for inserts. The rows are written to the
+    /// file; their texts are counted in memory, and are written by a flush. After an error nothing is changed, or the package has failed.
     pub fn update_rows(&mut self, query: &Update) -> Result<(), Error>
         ensures changes { PackageChanges (λ P Q answer. Updates P (update_name query.now)
             (update_sets query.now) (update_condition query.now) Q answer)
@@ -40,8 +40,8 @@ impl<F: Medium> Package<F> {
 
     /// Deletes rows of a table. `Failed` after an earlier fault, `InvalidData` where the package isn't sound; then `NotFound` where no
     /// table has the name, `InvalidInput` for one of the three tables that describe others, or where the condition names a column that
-    /// isn't there. The other errors are faults, as for inserts. The rows are written to the file; the uses of their texts are taken back in memory,
-    /// and written by a flush. After an error nothing is changed, or the package has failed.
+    /// isn't there. The other errors are faults, as for inserts. The rows are written to the file; the reference counts of their texts go
+    /// down in memory, and are written by a flush. After an error nothing is changed, or the package has failed.
     pub fn delete_rows(&mut self, query: &Delete) -> Result<(), Error>
         ensures changes { PackageChanges (λ P Q answer. Deletes P (delete_name query.now)
             (delete_condition query.now) Q answer) result self.old self.new }

@@ -13,9 +13,10 @@ use cfb_medium::{Error, Medium};
 
 impl<F: Medium> Package<F> {
     /// Drops a table, with all rows that describe it. `Failed` after an earlier fault, `InvalidData` where the package isn't sound; then
-    /// `InvalidInput` for one of the three tables that describe others and for a name that no table can have, `NotFound` where no table
-    /// has the name or `_Validation` is none. The other errors are faults, as for inserts. The tables' streams are written to the file; the uses of texts
-    /// are taken back in memory, and written by a flush. After an error nothing is changed, or the package has failed.
+    /// `InvalidInput` for one of the three tables that describe others and for a name that no table can have, `NotFound` where no table has
+    /// the name or `_Validation` is none. The other errors are faults, as for inserts. The tables' streams are written to the file; the
+    /// reference counts of texts go down in memory, and are written by a flush. After an error nothing is changed, or the package has
+    /// failed.
     pub fn drop_table(&mut self, name: &str) -> Result<(), Error>
         ensures changes { PackageChanges (λ P Q answer. Drops P name.now Q answer) result self.old
             self.new }

@@ -18,10 +18,10 @@ impl<F: Medium> Package<F> {
     /// Makes a table of this name with these columns. `Failed` after an earlier fault, `InvalidData` where the package isn't sound; then
     /// `InvalidInput` for a name or columns that no table can have, `AlreadyExists` where a table has the name, `NotFound` where
     /// `_Validation` is none, `InvalidInput` where the rows that describe it can't be kept, `AlreadyExists` where `_Validation` describes
-    /// one of its columns already or a storage stands at its name, `InvalidInput` for more than 65536 rows in one of the three tables
-    /// that describe others, or where the pool is full. The other errors are faults, as for inserts. The rows of the three tables are written to the
-    /// file; the uses of texts are counted in memory, and written by a flush. After an error nothing is changed, or the package has
-    /// failed.
+    /// one of its columns already or a storage stands at its name, `InvalidInput` for more than 65536 rows in one of the three tables that
+    /// describe others, or where the pool is full. The other errors are faults, as for inserts. The rows of the three tables are written to
+    /// the file; the reference counts of texts go up in memory, and are written by a flush. After an error nothing is changed, or the package
+    /// has failed.
     pub fn create_table(&mut self, name: &str, columns: Vec<Column>) -> Result<(), Error>
         ensures changes { PackageChanges
             (λ P Q answer. Creates (file_case_table (file_in self.old)) P
@@ -46,8 +46,8 @@ impl<F: Medium> Package<F> {
     /// tables can't be made or dropped there. No row speaks of its own columns. `Failed` after an earlier fault, `InvalidData` where the
     /// package isn't sound; then `AlreadyExists` where there is a table `_Validation`, or a storage stands at its name, `InvalidInput` for
     /// more than 65536 rows in `_Columns` or `_Tables`, or where the pool is full. The other errors are faults, as for inserts. The rows of
-    /// the two tables are written to the file; the uses of texts are counted in memory, and written by a flush. After an error nothing is
-    /// changed, or the package has failed.
+    /// the two tables are written to the file; the reference counts of texts go up in memory, and are written by a flush. After an error
+    /// nothing is changed, or the package has failed.
     pub fn add_validation(&mut self) -> Result<(), Error>
         ensures changes { PackageChanges
             (λ P Q answer. Validates (file_case_table (file_in self.old)) P

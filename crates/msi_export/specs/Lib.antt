@@ -1,3 +1,4 @@
 -- What exports are.
+pub mod Cells
 pub mod Exported
 pub mod FileNames

@@ -1,14 +1,15 @@
 //! Packages that are only read: a function for each call, since what is told of a call costs time wherever it is seen.
 use cfb::{CaseMapper, CompoundFile, Entries, Entry};
 use cfb_medium::Error;
-use installer::cell_value;
+use installer::{cell_value, property_value};
 use msi::{Package, Streams, Tables};
 use msi_columns::Column;
-use msi_export::{StreamFacts, facts_of_stream, row_text, stream_bytes};
+use msi_export::{StreamFacts, facts_of_stream, stream_bytes};
 use msi_props::PropertyValue;
 use msi_query::Select;
 use msi_spec::PackageType;
-use msi_tables::{Row, Rows, Table};
+use msi_tables::{Rows, Table};
+use msi_texts::encode;
 use msi_values::Value;
 use package_files::{Names, Shown, shown_at};
 use serde_json::Value as Json;
@@ -53,6 +54,10 @@ fn container_of(alloc: Global, shown: Shown) -> Result<CompoundFile<Shown>, Erro
 /// A value as lines of JSON have it.
 pub(crate) fn value_of_cell(alloc: Global, cell: &Value) -> Result<Json, AllocError> {
     cell_value(alloc, cell)
+}
+
+pub(crate) fn value_of_property(alloc: Global, value: &PropertyValue) -> Result<Json, AllocError> {
+    property_value(alloc, value)
 }
 
 pub(crate) fn text_of_json(alloc: Global, value: &Json) -> Result<String, AllocError> {
@@ -111,6 +116,48 @@ pub(crate) fn page_of(package: &Package<Shown>) -> i32 {
     package.database_codepage().id()
 }
 
+/// What a file has that a package doesn't tell.
+#[derive(Clone, Copy)]
+pub(crate) struct Stored {
+    /// The number of the code page: 0 where it names none.
+    pub(crate) page: u32,
+    /// Whether there is a storage beside the root.
+    pub(crate) has_storages: bool,
+}
+
+pub(crate) fn stored_at<R: Files<File = File> + AllocGlobal>(
+    rt: &R,
+    names: &Names,
+) -> Result<Stored, Error> {
+    let mut file = container_at(rt, names)?;
+    let page = stored_page(rt.alloc(), &mut file)?;
+    let has_storages = has_storages(entries_of(&file)?);
+    Ok(Stored { page, has_storages })
+}
+
+fn pool_bytes(alloc: Global, file: &mut CompoundFile<Shown>) -> Result<Vec<u8>, Error> {
+    let path = encode(alloc, "_StringPool", true)?;
+    file.read_stream(&path)
+}
+
+fn has_storages(entries: Entries) -> bool {
+    for entry in entries {
+        if !entry.is_stream() && !entry.is_root() {
+            return true;
+        }
+    }
+    false
+}
+
+// The first number of the string pool, without the bit that tells how long its places are written.
+fn stored_page(alloc: Global, file: &mut CompoundFile<Shown>) -> Result<u32, Error> {
+    let pool = pool_bytes(alloc, file)?;
+    match pool.as_slice() {
+        [a, b, c, d, ..] => Ok(u32::from_le_bytes([*a, *b, *c, *d]) & 0x7fff_ffff),
+        _ => Err(Error::UnexpectedEof),
+    }
+}
+
 /// The properties of its summary.
 pub(crate) fn properties_of(package: &Package<Shown>) -> &[(u32, PropertyValue)] {
     package.summary_info().properties()
@@ -148,14 +195,9 @@ pub(crate) fn rows_of(
     package.select_rows(&select)
 }
 
-/// A row as it is exported.
-pub(crate) fn text_of_row(
-    alloc: Global,
-    package: &Package<Shown>,
-    name: &str,
-    row: &Row,
-) -> Result<String, Error> {
-    row_text(alloc, package, name, row)
+/// Whether there is a stream of this name.
+pub(crate) fn has_stream(package: &Package<Shown>, name: &str) -> bool {
+    package.has_stream(name)
 }
 
 pub(crate) fn facts_of(

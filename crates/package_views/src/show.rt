@@ -4,13 +4,13 @@ ghost use Rattle.std.specs.Prelude.{◌≤◌};
 use crate::grids::grid_lines;
 use crate::packages::{
     facts_of, is_signed, is_sound, kind_of, package_at, page_of, properties_of, rows_of,
-    streams_of, table_named, tables_of, text_of_json, value_of_cell,
+    streams_of, table_named, tables_of, text_of_json, value_of_cell, value_of_property,
 };
 use crate::refusals::tell_why_refused;
 use crate::tree::{tree_at, write_tree};
 use cfb_medium::Error;
 use command_words::Parts;
-use installer::{columns_value, property_value};
+use installer::columns_value;
 use msi::Package;
 use msi_columns::Column;
 use msi_export::{StreamFacts, property_name};
@@ -355,10 +355,6 @@ fn one_line(alloc: Global, text: &str) -> Result<String, AllocError> {
 
 fn value_of_columns(alloc: Global, columns: &[Column]) -> Result<Json, AllocError> {
     columns_value(alloc, columns)
-}
-
-fn value_of_property(alloc: Global, value: &PropertyValue) -> Result<Json, AllocError> {
-    property_value(alloc, value)
 }
 
 fn text_value(alloc: Global, text: &str) -> Result<Json, AllocError> {

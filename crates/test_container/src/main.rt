@@ -1,19 +1,29 @@
 //! Answers rows of data on compound files: a row names a call and what it is given; what is printed beneath it is the answer.
-//! Of any other file it prints what it holds as a compound file.
+//! Rows of `disk.rows` are answered on files on disk, all others in memory. Of any other file it prints what it holds as a compound file.
 #![tactic(auto)]
 
+mod answers;
+mod calls;
 mod chains;
 mod contents;
 mod directory;
+mod disk;
+mod faults;
+mod files;
+mod many_names;
 mod minis;
 mod names;
 mod opening;
 mod shapes;
 mod siblings;
+mod streams;
+mod told;
 
-use anyhow::{Result, bail};
+use anyhow::Result;
 use chains::Chains;
 use directory::Directories;
+use disk::Disk;
+use files::FileInMemory;
 use minis::Minis;
 use names::Names;
 use opening::Openings;
@@ -44,6 +54,7 @@ fn print_file(rt: &HostRuntime, path: &str) -> Result<()> {
         "directory.rows" => print_rows(rt, text.as_str(), Directories::new(alloc)?),
         "minis.rows" => print_rows(rt, text.as_str(), Minis::new(alloc)?),
         "opening.rows" => print_rows(rt, text.as_str(), Openings::new(alloc)?),
-        _ => bail!("{path}: no such rows"),
+        "disk.rows" => print_rows(rt, text.as_str(), Disk::new(rt)),
+        _ => print_rows(rt, text.as_str(), FileInMemory::new()),
     }
 }

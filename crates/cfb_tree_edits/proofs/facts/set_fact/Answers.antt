@@ -99,7 +99,7 @@ returns-in-Err-with_dir_entry_mut-clause-tree_rule g c = record {
       let did = c.in-Err-with_dir_entry_mut.ensures in
       ⊎_elim (λ fault. inl (inl fault))
       (λ wrong. absurd (⊎_elim
-      (λ missing. did.refused (ap Err missing) m.who.sectors m.owners)
+      (λ missing. did.refused_only_if (ap Err missing) m.who.sectors m.owners)
       (λ large.
       let past = ((did.large e found).0 (ap Err large)).1 in
       let fits = m.sizes id e found in

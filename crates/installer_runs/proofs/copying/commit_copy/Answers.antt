@@ -7,7 +7,7 @@ use Rattle.cfb_medium.specs.Calls.{IsFaultOrInvalidInputIf}
 use Rattle.cfb_mini.specs.Views.{allocator_of}
 use Rattle.installer.proofs.Begun.{counted_later}
 use Rattle.installer.specs.Refusals.{IsFreshFault}
-use Rattle.installer_runs.proofs.Copied.{copied_is, copied_survives, fault_uncopied, rested_survives, survives_none, uncopied}
+use Rattle.installer_runs.proofs.Copied.{copied_is, copied_survives, fault_uncopied, never_copied, rested_survives, survives_none, uncopied}
 use Rattle.installer_runs.specs.Copying.{IsUncopied}
 use Rattle.msi.specs.Opened.{file_in}
 use Rattle.staged.specs.Staged.{device_of, IsJustifiedByStaged}
@@ -70,3 +70,15 @@ returns-in-Err-clause-cause g c = λ healthy.
     ⊎_elim (λ below. inl below) (λ since.
     let own = since c.args.medium.now (record { device = d.rests_refl _; failed = refl }) in
     inr (own.device, λ is. (let never : false ≡ true = sym healthy ∙ own.earlier is in cc))) c.in-Err.ensures.cause
+
+pub returns-in-Ok-clause-unsound : goal.returns-in-Ok-clause-unsound
+returns-in-Ok-clause-unsound g c = λ unsound. absurd (never_copied c.args.source.now c.copy_to.new.self _ _ _ c.in-Ok.ensures.copies unsound)
+
+pub returns-in-Ok-clause-left : goal.returns-in-Ok-clause-left
+returns-in-Ok-clause-left g c = λ honest unsound. absurd (never_copied c.args.source.now c.copy_to.new.self _ _ _ c.in-Ok.ensures.copies unsound)
+
+pub returns-in-Err-clause-left : goal.returns-in-Err-clause-left
+returns-in-Err-clause-left g c = λ honest unsound.
+    let d = g.met.D.Device in
+    rested_survives g.D.Device (file_case_table (file_in c.args.source.now)) d.counts_now d.rests_keeps d.rests_leaves (device_of c.args.medium.now) (device_of c.copy_to.new.target)
+    (c.in-Err.ensures.continues c.args.medium.now (record { device = d.rests_refl _; failed = refl })).device

@@ -50,3 +50,15 @@ pub returns-in-Ok-clause-copied : goal.returns-in-Ok-clause-copied
 returns-in-Ok-clause-copied g c = λ honest.
     let after : IsTrue (g.D.Device.honest (device_of c.in-Ok.medium)) = rw c.in-Ok.ensures.honest honest in
     copies_on c.args.source.now g.D.Device c.args.device c.copy_over.result.0 (staged_bytes c.in-Ok.medium) (c.in-Ok.ensures.bytes honest) c.copy_over.result.1 (c.copy_over.ensures.copied after)
+
+pub returns-in-Ok-clause-left : goal.returns-in-Ok-clause-left
+returns-in-Ok-clause-left g c = λ honest unsound.
+    let d = g.met.D.Device in
+    let after : IsTrue (g.D.Device.honest (device_of c.in-Ok.medium)) = rw c.in-Ok.ensures.honest honest in
+    survives_then (file_case_table (file_in c.args.source.now)) g.D.Device c.args.device (device_of c.in-Ok.medium) c.copy_over.result.0 [] []
+    (began_survives g.D.Device d.counts_now d.rests_keeps d.rests_leaves c.args.device (device_of c.in-Ok.medium) (device_of c.in-Ok.medium) c.in-Ok.ensures.honest c.in-Ok.ensures.failures c.in-Ok.ensures.stops (d.rests_refl _) (file_case_table (file_in c.args.source.now)))
+    (c.copy_over.ensures.left after unsound)
+
+pub returns-in-Err-clause-left : goal.returns-in-Err-clause-left
+returns-in-Err-clause-left g c = λ honest unsound.
+    survives_alike (file_case_table (file_in c.args.source.now)) g.D.Device g.met.D.Device.counts_now _ _ c.in-Err.ensures.err_honest c.in-Err.ensures.err_failures c.in-Err.ensures.stops

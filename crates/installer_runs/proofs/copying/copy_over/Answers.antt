@@ -6,7 +6,7 @@ use Rattle.cfb.specs.Views.{file_case_table, mini_of}
 use Rattle.cfb_fat.specs.Tables.{IsJustifiedBySectors}
 use Rattle.cfb_medium.specs.declared.error.Error.TheVariants.{AlreadyExists, Device, Failed}
 use Rattle.cfb_mini.specs.Views.{allocator_of}
-use Rattle.installer_runs.proofs.Copied.{cause_along, copied_there, count_along, rested_survives, survives_along, survives_none}
+use Rattle.installer_runs.proofs.Copied.{cause_along, copied_there, count_along, rested_survives, survives_along, survives_between, survives_none}
 use Rattle.installer_runs.specs.Copying.{IsUncopied}
 use Rattle.msi.specs.Opened.{file_in}
 use Rattle.staged.specs.Staged.{device_of, staged_bytes}
@@ -75,3 +75,21 @@ returns-in-Ok-clause-cause g c = λ healthy. inr (λ is. (let never : AlreadyExi
 
 pub returns-in-Ok-clause-refused_only_if : goal.returns-in-Ok-clause-refused_only_if
 returns-in-Ok-clause-refused_only_if g c = λ honest P held. inl (refl, λ empty. c.in-Ok.field-0-test.1 (c.in-Ok.ensures.length honest ∙ ap length empty))
+
+pub returns-in-Ok-eq0-clause-left : goal.returns-in-Ok-eq0-clause-left
+returns-in-Ok-eq0-clause-left g c = λ honest unsound.
+    let after : IsTrue (g.D.Device.honest (device_of c.len.new.self)) = rw c.len.ensures.honest honest in
+    survives_between g.D.Device (file_case_table (file_in c.args.source.now)) (device_of c.len.new.self) (device_of c.args.medium) (device_of c.commit_copy-copied.new.medium) c.into_device.result c.len.ensures.quiet c.into_device.ensures.device
+    (c.commit_copy-copied.ensures.left after unsound)
+
+pub returns-in-Ok-clause-left : goal.returns-in-Ok-clause-left
+returns-in-Ok-clause-left g c = λ honest unsound.
+    let d = g.met.D.Device in
+    rw c.into_device-in-Ok.ensures.device (rested_survives g.D.Device (file_case_table (file_in c.args.source.now)) d.counts_now d.rests_keeps d.rests_leaves (device_of c.args.medium) (device_of c.len.new.self)
+    (c.len.ensures.continues c.args.medium (record { device = d.rests_refl _; failed = refl })).device)
+
+pub returns-in-Err-clause-left : goal.returns-in-Err-clause-left
+returns-in-Err-clause-left g c = λ honest unsound.
+    let d = g.met.D.Device in
+    rw c.into_device-in-Err.ensures.device (rested_survives g.D.Device (file_case_table (file_in c.args.source.now)) d.counts_now d.rests_keeps d.rests_leaves (device_of c.args.medium) (device_of c.len.new.self)
+    (c.len.ensures.continues c.args.medium (record { device = d.rests_refl _; failed = refl })).device)

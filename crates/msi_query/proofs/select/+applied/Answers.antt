@@ -19,7 +19,7 @@ Join::found_rows-returns-in_ok-second-in-Inner-clause-answer g t c =
     let joined : source_of c.args.self.now ≡ inner_join (query_of left) (query_of right) on =
     ap source_of c.in-Inner.is ∙ ap₂ (λ x y. inner_join (query_of x) (query_of y) on) (sym c.deref-in-Inner.ensures) (sym c.deref-in-Inner-2.ensures) in
     let later : (tables : TablesByName) → g.S.TableSource.has_tables c.args.source.now tables → selected tables pool (query_of right) ≡ Ok (answered c.in_ok-second-in-Inner.second) =
-    λ tables has. c.in_ok-second-in-Inner.ensures.answer tables (g.met.S.TableSource.rests_keeps _ _ tables c.in_ok-first-in-Inner.ensures.rests has) in
+    λ tables has. c.in_ok-second-in-Inner.ensures.answer tables (g.met.S.TableSource.rests_keeps _ _ tables c.in_ok-first-in-Inner.ensures.only_reads has) in
     subst P (sym joined)
     (then_both (g.S.TableSource.has_tables c.args.source.now) (g.S.TableSource.has_cause c.args.source.now c.apply-in-Inner.new.source) answered c.inner_joined.result
     (λ tables. selected tables pool (query_of left)) (λ tables. selected tables pool (query_of right)) (inner_joined pool on)
@@ -36,7 +36,7 @@ Join::found_rows-returns-in_ok-second-in-Left-clause-answer g t c =
     let joined : source_of c.args.self.now ≡ left_join (query_of left) (query_of right) on =
     ap source_of c.in-Left.is ∙ ap₂ (λ x y. left_join (query_of x) (query_of y) on) (sym c.deref-in-Left.ensures) (sym c.deref-in-Left-2.ensures) in
     let later : (tables : TablesByName) → g.S.TableSource.has_tables c.args.source.now tables → selected tables pool (query_of right) ≡ Ok (answered c.in_ok-second-in-Left.second) =
-    λ tables has. c.in_ok-second-in-Left.ensures.answer tables (g.met.S.TableSource.rests_keeps _ _ tables c.in_ok-first-in-Left.ensures.rests has) in
+    λ tables has. c.in_ok-second-in-Left.ensures.answer tables (g.met.S.TableSource.rests_keeps _ _ tables c.in_ok-first-in-Left.ensures.only_reads has) in
     subst P (sym joined)
     (then_both (g.S.TableSource.has_tables c.args.source.now) (g.S.TableSource.has_cause c.args.source.now c.apply-in-Left-2.new.source) answered c.left_joined.result
     (λ tables. selected tables pool (query_of left)) (λ tables. selected tables pool (query_of right)) (left_joined pool on)
@@ -67,7 +67,7 @@ Join::found_rows-returns-in_err-second-in-Inner-clause-answer g t c =
     let right = c.deref-in-Inner-2.result.now in
     let on = formula_of c.in-Inner.on in
     let e = c.in_err-second-in-Inner.field-0.0 in
-    let rests = c.in_ok-first-in-Inner.ensures.rests in
+    let rests = c.in_ok-first-in-Inner.ensures.only_reads in
     let has = g.S.TableSource.has_tables c.args.source.now in
     let is_fault = g.S.TableSource.has_cause c.args.source.now c.apply-in-Inner.new.source in
     let P : Source → Type 0 = λ s. AnswersOf has is_fault answered c.from_residual-in_err-second-in-Inner.result (λ tables. source_rows tables pool s) in
@@ -106,7 +106,7 @@ Join::found_rows-returns-in_err-second-in-Left-clause-answer g t c =
     let right = c.deref-in-Left-2.result.now in
     let on = formula_of c.in-Left.on in
     let e = c.in_err-second-in-Left.field-0.0 in
-    let rests = c.in_ok-first-in-Left.ensures.rests in
+    let rests = c.in_ok-first-in-Left.ensures.only_reads in
     let has = g.S.TableSource.has_tables c.args.source.now in
     let is_fault = g.S.TableSource.has_cause c.args.source.now c.apply-in-Left-2.new.source in
     let P : Source → Type 0 = λ s. AnswersOf has is_fault answered c.from_residual-in_err-second-in-Left.result (λ tables. source_rows tables pool s) in

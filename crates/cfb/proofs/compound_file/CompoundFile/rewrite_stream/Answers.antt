@@ -36,7 +36,7 @@ returns-in-Err-overwrite_bytes-clause-puts g c =
     (λ failed. let never = found.when_failed failed in absurd (cc)) (λ alive unsound. let never = found.unsound alive unsound in absurd (cc))
     found.found c.overwrite_bytes.ensures.seen c.in-Err-overwrite_bytes.error
     (λ input names tree content w size. let past = told.past (ap Err input) names tree content w in absurd (omega (arith, past, size, same)))
-    (λ broken. told.refused (ap Err broken)) told.kept (⊎_elim (λ fault. inl fault) (λ place. inr (inl place)) told.error_contract.fault)
+    (λ broken. told.refused_only_if (ap Err broken)) told.kept (⊎_elim (λ fault. inl fault) (λ place. inr (inl place)) told.error_contract.fault)
 
 pub returns-in-Err-overwrite_bytes-clause-invariants : goal.returns-in-Err-overwrite_bytes-clause-invariants
 returns-in-Err-overwrite_bytes-clause-invariants g c =
@@ -71,7 +71,7 @@ returns-in-Err-extend_bytes-clause-puts g c =
     (λ input names tree content w size. fits_yet (names_in c.args.path.now) c.args.bytes.now c.args.self.now c.find_written.new.self c.extend_bytes.new.self c.find_written.ensures.only_reads _ _
     (λ failed. let never = found.when_failed failed in absurd (cc)) (λ alive unsound. let never = found.unsound alive unsound in absurd (cc))
     found.found c.extend_bytes.ensures.seen (length c.args.bytes.now) c.requires (told.large (ap Err input) names tree content w))
-    (λ broken. told.refused (ap Err broken)) told.kept told.error_contract.fault
+    (λ broken. told.refused_only_if (ap Err broken)) told.kept told.error_contract.fault
 
 pub returns-in-Err-extend_bytes-clause-invariants : goal.returns-in-Err-extend_bytes-clause-invariants
 returns-in-Err-extend_bytes-clause-invariants g c =

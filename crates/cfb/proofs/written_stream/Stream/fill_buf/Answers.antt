@@ -20,7 +20,7 @@ returns-in-Ok g c =
             subst (λ n. bytes ≡ take (length bytes) (drop n content)) c.in-Ok.ensures.unmoved (c.buffer.ensures.bytes path tree content (c.in-Ok.ensures.only_reads.keeps path tree content s).0);
         most = search rules;
         some = search rules;
-        failed = λ wrong. absurd (let no = c.in-Ok.ensures.when_failed wrong in cc);
-        fault = tt;
+        when_failed = λ wrong. absurd (let no = c.in-Ok.ensures.when_failed wrong in cc);
+        errors = tt;
       },
     )

@@ -5,8 +5,8 @@ use Rattle.cfb_fat.specs.Keeping.{grows_then, takes_rest}
 use Rattle.cfb_fat_runs.specs.Tables.{entries_of}
 use Rattle.cfb_fat.proofs.allocator.Allocator.make_room.Goals as goal
 
-pub lengthen-requires-clause-full_only_if : goal.lengthen-requires-clause-full_only_if
-lengthen-requires-clause-full_only_if g c =
+pub lengthen-requires-clause-full : goal.lengthen-requires-clause-full
+lengthen-requires-clause-full g c =
     let mid = c.reserve_growth.new.self in
     let each = c.sector_len-each.result / 4 in
     let size : c.len.result ≡ length (entries_of mid.fat) = omega (arith, c.len.ensures.value) in
@@ -19,7 +19,7 @@ lengthen-requires-clause-few g c =
     let mid = c.reserve_growth.new.self in
     let rests = c.in_ok-reserve_growth.ensures.only_reads in
     let covered = (c.args.self.now.orderly c.requires.orderly).covered in
-    let less = few_full (version_of mid.sectors) (length (entries_of mid.fat)) (length mid.fat_sectors.items) (lengthen-requires-clause-full_only_if g c) (omega (arith, ap length rests.fat, covered, c.num_sectors.ensures, c.if-num_sectors-gt-MAX_REGULAR_SECTOR.false)) in
+    let less = few_full (version_of mid.sectors) (length (entries_of mid.fat)) (length mid.fat_sectors.items) (lengthen-requires-clause-full g c) (omega (arith, ap length rests.fat, covered, c.num_sectors.ensures, c.if-num_sectors-gt-MAX_REGULAR_SECTOR.false)) in
     omega (arith, less, ap length rests.fat, covered, rests.sectors.count)
 
 pub returns-then-len-each-clause-place : goal.returns-then-len-each-clause-place

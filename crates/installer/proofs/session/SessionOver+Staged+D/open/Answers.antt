@@ -1,4 +1,4 @@
-use Rattle.std.proofs.Common.{◌∙◌, ap, inl, inr, refl, subst, sym, ⊎_elim}
+use Rattle.std.proofs.Common.{◌∙◌, ◌≡◌, ap, false, true, inl, inr, refl, subst, sym, ⊎_elim}
 use Rattle.std.specs.Prelude.{IsTrue}
 use Rattle.cfb_medium.specs.Calls.{IsFaultOrInvalidInputIf}
 use Rattle.cfb_tree.specs.CaseTableViews.{case_table_of}
@@ -8,7 +8,7 @@ use Rattle.msi.specs.Opened.{IsOpenedPackage}
 use Rattle.msi_spec.specs.Opening.{keeps_encoded_names}
 use Rattle.staged.specs.Staged.{device_of, staged_bytes}
 use Rattle.installer.proofs.Based.{held_sound, settled_published}
-use Rattle.installer.proofs.Begun.{began_counted, began_survives, begins_found, malformed_or_fault, recovery_kinds, reopen_fault, same_bytes}
+use Rattle.installer.proofs.Begun.{began_counted, began_survives, begins_found, malformed_or_fault, recovered_fresh, recovery_kinds, reopen_fault, same_bytes}
 use Rattle.installer.proofs.Following.{published_yet}
 use Rattle.installer.proofs.Going.{package_live}
 use Rattle.installer.proofs.Stopping.{survives_alike}
@@ -77,15 +77,19 @@ pub returns-in-Err-open-clause-refused_only_if : goal.returns-in-Err-open-clause
 returns-in-Err-open-clause-refused_only_if g c =
     let d = g.met.D.Device in
     let on = c.in-Err-open.ensures.left.extends c.in-Ok.medium (record { device = d.rests_refl _; failed = refl }) in
+    let cause = c.in-Err-open.ensures.cause c.in-Ok.medium (record { device = d.rests_refl _; failed = refl }) in
     record {
       kind = λ honest.
           let before : IsTrue (g.D.Device.honest (device_of c.in-Ok.medium)) = rw c.in-Ok.ensures.honest honest in
           ⊎_elim (λ fault. inr (inl fault)) (λ refused. inr (inr (staged_bytes c.in-Ok.medium, c.in-Ok.ensures.bytes honest, refused))) (c.in-Err-open.ensures.refused_only_if before);
       told = c.in-Err-open.ensures.errors;
-      counted = rw c.into_device.ensures.device (
-          began_counted g.D.Device d.counts_now d.rests_keeps d.rests_leaves c.args.device (device_of c.in-Ok.medium) _ c.in-Ok.ensures.honest c.in-Ok.ensures.failures c.in-Ok.ensures.stops on.device c.in-Err-open.error
-          (c.in-Err-open.ensures.cause c.in-Ok.medium (record { device = d.rests_refl _; failed = refl })).device
-          );
+      fault = (
+        rw c.into_device.ensures.device (
+            began_counted g.D.Device d.counts_now d.rests_keeps d.rests_leaves c.args.device (device_of c.in-Ok.medium) _ c.in-Ok.ensures.honest c.in-Ok.ensures.failures c.in-Ok.ensures.stops on.device c.in-Err-open.error
+            cause.device
+            ),
+        λ is. (let never : false ≡ true = sym c.in-Ok.ensures.sound ∙ cause.earlier is in cc),
+      );
     }
 
 pub returns-in-Err-open-clause-reopens : goal.returns-in-Err-open-clause-reopens
@@ -99,7 +103,7 @@ returns-in-Err-clause-refused_only_if g c = record {
   kind = λ honest. ⊎_elim (λ malformed. inl malformed) (λ fault. inr (inl (subst (IsFaultOrInvalidInputIf ⊥) (sym fault) tt)))
       (malformed_or_fault g.D.Device c.args.device c.in-Err.refusal.0 c.in-Err.refusal.1 c.in-Err.ensures.after_error c.in-Err.ensures.malformed);
   told = recovery_kinds c.in-Err.refusal.1 c.in-Err.ensures.after_error.kind;
-  counted = c.in-Err.ensures.after_error.counted;
+  fault = (c.in-Err.ensures.after_error.counted, recovered_fresh c.in-Err.refusal.1 c.in-Err.ensures.after_error.kind);
 }
 
 pub returns-in-Err-clause-reopens : goal.returns-in-Err-clause-reopens

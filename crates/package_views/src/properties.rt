@@ -1,0 +1,239 @@
+//! One property of a package, or one field of its summary, as a text.
+ghost use Rattle.std.specs.Prelude.{◌≤◌};
+
+use crate::packages::{
+    columns_of, package_at, properties_of, rows_of, table_named, text_of_json, value_of_property,
+};
+use crate::refusals::tell_why_refused;
+use cfb_medium::Error;
+use msi::Package;
+use msi_columns::Column;
+use msi_props::PropertyValue;
+use msi_tables::Row;
+use msi_values::Value;
+use package_files::{Names, Output, Shown, check_shown, status_of_error, tell_failure, tell_part};
+use serde_json::Value as Json;
+use std::alloc::{AllocError, Global};
+use std::fs::File;
+use std::io::Write;
+use std::rt::Files;
+
+/// The table whose rows are properties.
+const TABLE: &str = "Property";
+
+// What was found under a name.
+#[derive(Drop)]
+enum Sought {
+    // Its value.
+    Value(String),
+    // Nothing.
+    Nothing,
+    // The package has no table of properties.
+    NoTable,
+    // The summary knows no such field.
+    NoField,
+}
+
+/// Prints the value of a property, or of a field of the summary, of a package as a recovery would leave it. It is only read. The status is
+/// 0 where there is one, 1 where there is none, which is told; 3 where the file is no package or can't be read, which is told, too, and where
+/// nothing can be written.
+pub fn get_property<'a, R: Files<File = File> + AllocGlobal, O: Write, E: Write>(
+    rt: &R,
+    names: &'a Names,
+    name: &str,
+    is_field: bool,
+    out: &'a mut O,
+    err: &'a mut E,
+) -> u8
+    ensures { result ≤ 3 }
+{
+    if let Err(failure) = check_shown(rt, names, err) {
+        tell_failure(names, failure, err);
+        return 3;
+    }
+    let mut package = match package_at(rt, names) {
+        Ok(package) => package,
+        Err(error) => {
+            tell_why_refused(rt, names, error, err);
+            return 3;
+        }
+    };
+    let sought = if is_field {
+        field_in(rt.alloc(), &package, name)
+    } else {
+        property_in(rt.alloc(), &mut package, name)
+    };
+    match sought {
+        Ok(Sought::Value(text)) => print_value(names.named(), &text, out, err),
+        Ok(sought) => {
+            tell_nothing(names.named(), name, &sought, err);
+            1
+        }
+        Err(error) => {
+            let (kind, part) = if is_field {
+                ("the summary's", name)
+            } else {
+                ("table", TABLE)
+            };
+            tell_part(names.named(), kind, part, error, err);
+            3
+        }
+    }
+}
+
+/// Whether a package as a recovery would leave it has a property, or its summary a field. It is only read.
+pub fn has_property<R: Files<File = File> + AllocGlobal>(
+    rt: &R,
+    names: &Names,
+    name: &str,
+    is_field: bool,
+) -> Result<bool, Error> {
+    let mut package = package_at(rt, names)?;
+    let sought = if is_field {
+        field_in(rt.alloc(), &package, name)?
+    } else {
+        property_in(rt.alloc(), &mut package, name)?
+    };
+    Ok(matches!(sought, Sought::Value(_)))
+}
+
+// Prints a value on a line. The status is 0 where it was printed, or nobody reads it.
+fn print_value<O: Write, E: Write>(path: &str, text: &str, out: &mut O, err: &mut E) -> u8
+    ensures { result ≤ 3 }
+{
+    let mut out = Output::new(out);
+    match out.line(text) {
+        Ok(()) => 0,
+        Err(error) => status_of_error(path, error, out.broken(), 0, err),
+    }
+}
+
+// Tells why there is no value.
+fn tell_nothing<E: Write>(path: &str, name: &str, sought: &Sought, err: &mut E) {
+    let _ = match sought {
+        Sought::NoTable => writeln!(err, "msidb: {path}: no table {TABLE}"),
+        Sought::NoField => writeln!(
+            err,
+            "msidb: {path}: no summary has a field {name}; `msidb get --help` tells the fields"
+        ),
+        _ => writeln!(err, "msidb: {path}: no {name}"),
+    };
+}
+
+// The value of a property.
+fn property_in(alloc: Global, package: &mut Package<Shown>, name: &str) -> Result<Sought, Error> {
+    if table_named(package, TABLE).is_none() {
+        return Ok(Sought::NoTable);
+    }
+    let columns = columns_of(package, TABLE);
+    let (names, values) = (place_of(columns, TABLE), place_of(columns, "Value"));
+    for row in rows_of(alloc, package, TABLE)? {
+        if is_named(&row, names, name) {
+            return Ok(Sought::Value(cell_text(alloc, &row, values)?));
+        }
+    }
+    Ok(Sought::Nothing)
+}
+
+// The place of a column; behind the last where there is none.
+fn place_of(columns: &[Column], name: &str) -> usize {
+    columns
+        .iter()
+        .position(|column| column.name() == name)
+        .unwrap_or(columns.len())
+}
+
+// Whether a row has this text at a place.
+fn is_named(row: &Row, place: usize, name: &str) -> bool {
+    matches!(row.value(place), Some(Value::Str(text)) if text.as_str() == name)
+}
+
+// A value of a row as a text; nothing for null.
+fn cell_text(alloc: Global, row: &Row, place: usize) -> Result<String, AllocError> {
+    match row.value(place) {
+        Some(Value::Str(text)) => String::from_str(alloc, text),
+        Some(Value::Int(number)) => format!(in alloc; "{number}"),
+        _ => Ok(String::new(alloc)),
+    }
+}
+
+// The number of the template, whose two parts are fields.
+const TEMPLATE: u32 = 7;
+
+// The number of the property that a field is, or of the one in which it stands.
+fn number_of(field: &str) -> Option<u32> {
+    Some(match field {
+        "codepage" => 1,
+        "title" => 2,
+        "subject" => 3,
+        "author" => 4,
+        "keywords" => 5,
+        "comments" => 6,
+        "arch" | "languages" => TEMPLATE,
+        "last_saved_by" => 8,
+        "uuid" => 9,
+        "last_printed" => 11,
+        "creation_time" => 12,
+        "last_saved_time" => 13,
+        "page_count" => 14,
+        "word_count" => 15,
+        "character_count" => 16,
+        "creating_application" => 18,
+        "doc_security" => 19,
+        _ => return None,
+    })
+}
+
+// The value of a field of the summary.
+fn field_in(alloc: Global, package: &Package<Shown>, field: &str) -> Result<Sought, Error> {
+    let Some(number) = number_of(field) else {
+        return Ok(Sought::NoField);
+    };
+    for (other, value) in properties_of(package) {
+        if *other == number {
+            return Ok(Sought::Value(text_of_field(alloc, field, value)?));
+        }
+    }
+    Ok(Sought::Nothing)
+}
+
+// A property as a field's text: several keywords or languages with commas, a time in tenths of a microsecond.
+fn text_of_field(alloc: Global, field: &str, value: &PropertyValue) -> Result<String, AllocError> {
+    match value {
+        PropertyValue::LpStr(text) => part_of_text(alloc, field, text),
+        PropertyValue::I1(number) => format!(in alloc; "{number}"),
+        PropertyValue::I2(number) => format!(in alloc; "{number}"),
+        PropertyValue::I4(number) => format!(in alloc; "{number}"),
+        PropertyValue::FileTime(_) => units_of(alloc, value),
+        PropertyValue::Empty | PropertyValue::Null => Ok(String::new(alloc)),
+    }
+}
+
+fn part_of_text(alloc: Global, field: &str, text: &str) -> Result<String, AllocError> {
+    match field {
+        "arch" => String::from_str(alloc, text.split(';').next().unwrap_or("")),
+        "languages" => String::from_str(alloc, text.split(';').nth(1).unwrap_or("")),
+        "keywords" => joined(alloc, text),
+        _ => String::from_str(alloc, text),
+    }
+}
+
+// Keywords, which stand with semicolons between them, with commas.
+fn joined(alloc: Global, text: &str) -> Result<String, AllocError> {
+    let mut all = String::new(alloc);
+    for word in text.split(';') {
+        if !all.is_empty() {
+            all.push(',')?;
+        }
+        all.push_str(word.trim())?;
+    }
+    Ok(all)
+}
+
+fn units_of(alloc: Global, value: &PropertyValue) -> Result<String, AllocError> {
+    let json = value_of_property(alloc, value)?;
+    match json.get("time") {
+        Some(units) => text_of_json(alloc, units),
+        None => text_of_json(alloc, &Json::Null),
+    }
+}
