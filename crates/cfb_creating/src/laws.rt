@@ -7,7 +7,7 @@ ghost use Rattle.cfb_medium.specs.declared.version.Version.{Version};
 ghost use Rattle.cfb_tree.specs.Names.{CaseTable};
 ghost use Rattle.std.specs.Prelude.{length, List, ℕ, ◌*◌, ◌++◌, ◌≡◌};
 
-/// The bytes of a new file mean the tree of a root that holds nothing, under each letter table, also with others behind them; by
+/// The bytes of a new file mean the tree of a root that holds nothing, under each case table, also with others behind them; by
 /// themselves they are sound, a strict reader takes them, and they have three sectors' length ([MS-CFB] 2).
 pub fn new_files_mean_the_empty_tree()
     ensures means { (version : Version) (letters : CaseTable) (behind : List ℕ)

@@ -61,7 +61,7 @@ impl<F: ReadMedium> Directory<F> {
 
     /// Reads the directory from the chain of its first sector. `InvalidData` where there is no such chain, or a reader doesn't
     /// take its entries as a tree: entry 0 is no root, an entry below it is no stream or storage or has no name, one stands
-    /// twice, siblings don't rise strictly under the letter table; a strict reader also asks for the root's name and for
+    /// twice, siblings don't rise strictly under the case table; a strict reader also asks for the root's name and for
     /// colours. A refusal gives the medium back.
     pub fn new(
         alloc: Global,

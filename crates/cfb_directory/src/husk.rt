@@ -39,7 +39,7 @@ impl<F: Medium> Directory<F> {
     ghost use Rattle.cfb_directory.specs.Views.{allocator_of, OnlyReadsDirectory};
 
     /// The medium, taken back to the bytes that were published last, and the husk of the directory, also where it has failed.
-    /// A refusal gives the directory as it was: `InvalidInput` of a medium that doesn't survive a stop, `Failed` of one that
+    /// A refusal gives the directory as it was: `InvalidInput` of a medium that doesn't survive a crash, `Failed` of one that
     /// has failed, `Memory` and `Device`.
     pub fn roll_back(self) -> Result<(F, DirectoryHusk), (Directory<F>, Error)>
         ensures rolled { IfOk result

@@ -241,7 +241,7 @@ fn is_root(alloc: Global, validation: Validation, entry: &DirEntry) -> Result<bo
     }
 }
 
-/// Whether a reader takes the entries as a tree under the letter table. The one error is `Memory`.
+/// Whether a reader takes the entries as a tree under the case table. The one error is `Memory`.
 pub(crate) fn is_tree(
     alloc: Global,
     letters: &CaseMapper,

@@ -7,7 +7,7 @@ ghost use Rattle.cfb_tree.specs.Paths.{Path};
 ghost use Rattle.cfb_tree.specs.Tree.{IsOrdered, Tree};
 ghost use Rattle.std.specs.Prelude.{length, Some, ℕ, ◌<◌, ◌≡◌};
 
-/// A change at a path below the root leaves all other objects. Under every letter table: an object that was added stands at its
+/// A change at a path below the root leaves all other objects. Under every case table: an object that was added stands at its
 /// path with what it holds; one that was removed doesn't, nor does what it held, where siblings are in order; one that was changed,
 /// and kept its name, is there as the change has it. The object at any other path is the same as before, and the storages that
 /// hold the changed object keep their names and facts ([MS-CFB] 1.3, 2.6.4).

@@ -311,7 +311,7 @@ impl<F: Medium> Allocator<F> {
     }
 
     /// The medium, taken back to the bytes that were published last, also where the allocator has failed. A refusal gives the
-    /// allocator as it was: `InvalidInput` of a medium that doesn't survive a stop, `Failed` of one that has failed, `Memory`
+    /// allocator as it was: `InvalidInput` of a medium that doesn't survive a crash, `Failed` of one that has failed, `Memory`
     /// and `Device`.
     pub fn roll_back(self) -> Result<F, (Allocator<F>, Error)>
         ensures rolled { IfOk result (MediumRollsBack F.honest F.bytes F.continues F.has_published

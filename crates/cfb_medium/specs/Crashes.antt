@@ -1,4 +1,4 @@
--- What a stop may leave at each moment of a run of calls.
+-- What a crash may leave at each moment of a run of calls.
 use Rattle.std.specs.Prelude.{◌⊎◌, ℕ, ◌≤◌}
 
 -- A stop at any moment since the old state leaves what has P.

@@ -43,7 +43,7 @@ impl<F: Medium> MiniAllocator<F> {
     ghost use Rattle.cfb_mini.specs.Views.{allocator_of, OnlyReadsMini};
 
     /// The medium, taken back to the bytes that were published last, and the husk of the rest, also where it has failed. A
-    /// refusal gives all as it was: `InvalidInput` of a medium that doesn't survive a stop, `Failed` of one that has failed,
+    /// refusal gives all as it was: `InvalidInput` of a medium that doesn't survive a crash, `Failed` of one that has failed,
     /// `Memory` and `Device`.
     pub fn roll_back(self) -> Result<(F, MiniHusk), (MiniAllocator<F>, Error)>
         ensures rolled { IfOk result

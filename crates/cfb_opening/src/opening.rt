@@ -18,7 +18,7 @@ use cfb_tree::CaseMapper;
 use std::alloc::Global;
 
 /// Opens the compound file on a medium: header, DIFAT, FAT, directory, mini FAT and mini stream ([MS-CFB] 2). `InvalidData`
-/// exactly where the bytes mean no tree under the letter table, whatever bytes its streams have, or a strict reader doesn't take
+/// exactly where the bytes mean no tree under the case table, whatever bytes its streams have, or a strict reader doesn't take
 /// them: it asks for the header's counts, the DIFAT's end, whole sectors, the root's name, and colours. A stream's chain is
 /// looked at by no reader here. It takes time and memory by the length of the tables and the directory. A refusal gives the
 /// medium back.

@@ -87,6 +87,6 @@ module _ {F : Type 0} {g : Ghosts F} where
   abbrev pub IsJustifiedByMedium : Sectors F g → Sectors F g → Error → Type 0
   IsJustifiedByMedium old new error = IsJustifiedSince g.continues g.failures (λ m. has_failed_here old || g.failed m) old.inner new.inner error
 
-  -- a stop at a moment since the old state leaves what one might have left by then, or the bytes that there were
+  -- a crash at a moment since the old state leaves what one might have left by then, or the bytes that there were
   abbrev pub CrashLeavesOldOrBytes : Sectors F g → Sectors F g → Type 0
   CrashLeavesOldOrBytes old new = CrashLeavesOnly g.moment g.crash_left_since (medium_of old) (medium_of new) (λ left. g.crash_may_leave (medium_of old) left ⊎ (left ≡ Some (bytes_of old)))

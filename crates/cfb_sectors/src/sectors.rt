@@ -453,7 +453,7 @@ impl<F: Medium> Sectors<F> {
     }
 
     /// The medium, taken back to the bytes that were published last, also where the sectors have failed. A refusal gives the
-    /// sectors as they were: `InvalidInput` of a medium that doesn't survive a stop, `Failed` of one that has failed, `Memory`
+    /// sectors as they were: `InvalidInput` of a medium that doesn't survive a crash, `Failed` of one that has failed, `Memory`
     /// and `Device`.
     pub fn roll_back(self) -> Result<F, (Sectors<F>, Error)>
         ensures rolled { IfOk result (MediumRollsBack F.honest F.bytes F.continues F.has_published

@@ -99,7 +99,7 @@ pub record BytesMeanTreeBy (l : Layout) (Reads : Entry → List ℕ → Type 0) 
   pub once : IsDistinct nat_eq (0 ∷ l.entries)
   pub ordered : IsOrdered letters tree.content
 
--- THE MEANING OF A FILE: the bytes mean the tree under a letter table ([MS-CFB] 2)
+-- THE MEANING OF A FILE: the bytes mean the tree under a case table ([MS-CFB] 2)
 abbrev pub BytesMeanTree : CaseTable → List ℕ → Tree → Type 0
 BytesMeanTree letters bytes tree = (l : Layout) × BytesMeanTreeBy l (HasBytes bytes l) letters bytes tree
 

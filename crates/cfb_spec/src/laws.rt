@@ -6,7 +6,7 @@ ghost use Rattle.cfb_tree.specs.Names.{CaseTable};
 ghost use Rattle.cfb_tree.specs.Tree.{Tree};
 ghost use Rattle.std.specs.Prelude.{List, ℕ, ◌≡◌};
 
-/// Under one letter table bytes mean at most one tree.
+/// Under one case table bytes mean at most one tree.
 pub fn bytes_mean_one_tree()
     ensures { (letters : CaseTable) (bytes : List ℕ) (s t : Tree) → BytesMeanTree letters bytes s
         → BytesMeanTree letters bytes t → s ≡ t }

@@ -1,4 +1,4 @@
--- What a letter table in memory says.
+-- What a case table in memory says.
 use Rattle.std.specs.Prelude.{◌≡◌, ℕ}
 use Rattle.cfb_tree.specs.Names.{letter, CaseTable}
 use Rattle.cfb_tree.specs.declared.letters.CaseMapper.{CaseMapper}

@@ -36,7 +36,7 @@ abbrev pub tree_of : Tree → Object → Tree
 tree_of old (a_stream name state_bits bytes) = old
 tree_of old (a_storage name facts inside) = record { root = facts; content = inside }
 
--- two names that are one name under the letter table ([MS-CFB] 2.6.4)
+-- two names that are one name under the case table ([MS-CFB] 2.6.4)
 abbrev pub is_same_name : CaseTable → List ℕ → List ℕ → Bool
 is_same_name letters a b = is_eq (name_cmp letters a b)
 

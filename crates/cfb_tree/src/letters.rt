@@ -1,4 +1,4 @@
-//! The letter table.
+//! The case table.
 ghost use Rattle.cfb_medium.specs.declared.error.Error.TheVariants.{InvalidInput, Memory};
 ghost use Rattle.cfb_tree.specs.Names.{ascii_letters, is_between, letter, touches, AreLetters};
 ghost use Rattle.std.specs.Char.{IsScalar};
@@ -38,7 +38,7 @@ const ASCII_LETTERS: [(char, char); 26] = [
     ('z', 'Z'),
 ];
 
-/// The letter table of a file: which characters count as another where names are compared ([MS-CFB] 2.6.4).
+/// The case table of a file: which characters count as another where names are compared ([MS-CFB] 2.6.4).
 #[derive(Drop)]
 pub struct CaseMapper {
     letters: BTreeMap<char, char>,

@@ -7,7 +7,7 @@ use cfb_medium::{Error, Medium};
 use staged::{Device, Staged, recover};
 use std::alloc::Global;
 
-/// The bytes of a device that were committed last; a commit that a stop cut short is finished first. Its errors are those of `recover`.
+/// The bytes of a device that were committed last; a commit that a crash cut short is finished first. Its errors are those of `recover`.
 pub fn open_store<D: Device + Drop>(alloc: Global, mut device: D) -> Result<Staged<D>, Error> {
     recover(&mut device)?;
     match Staged::new(alloc, device) {
@@ -16,7 +16,7 @@ pub fn open_store<D: Device + Drop>(alloc: Global, mut device: D) -> Result<Stag
     }
 }
 
-/// Counts up the number at the front of a store, and publishes it: whatever a stop leaves after `Ok`, the new number is there; one that
+/// Counts up the number at the front of a store, and publishes it: whatever a crash leaves after `Ok`, the new number is there; one that
 /// comes before leaves what one might have left earlier, or the new number. A store without bytes holds 0. An error is a fault of the
 /// store, and the number is as it was, or it is the new one where the commit couldn't be finished.
 pub fn count_up<M: Medium>(store: &mut M) -> Result<u64, Error>

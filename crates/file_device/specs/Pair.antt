@@ -27,7 +27,7 @@ raw_syncs d which = counted_syncs d.counts which
 abbrev pub raw_moment : {F : Type 0} {g : Ghosts F} → RawDevice F g → ℕ
 raw_moment d = d.ticks
 
--- what a stop at a tick may leave of the two files
+-- what a crash at a tick may leave of the two files
 abbrev pub raw_left : {F : Type 0} {g : Ghosts F} → RawDevice F g → ℕ → Files → Type 0
 raw_left {F} {g} d tick left = g.left_at d.home tick left.home × g.left_at d.log tick left.log
 

@@ -12,7 +12,7 @@ use std::fs::File;
 use std::io;
 use std::rt::Files;
 
-/// One file on disk, which is written in place: a stop may leave anything of it. It is locked as long as the medium lives, so that no
+/// One file on disk, which is written in place: a crash may leave anything of it. It is locked as long as the medium lives, so that no
 /// second program writes what this one reads. Once a sync has failed each call is `Device`, since what is shown may be missing on the
 /// disk.
 ///

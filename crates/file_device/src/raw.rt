@@ -14,7 +14,7 @@ pub trait RawFile {
     /// What is said of bytes stands where this holds: a read shows what was written.
     ghost honest: { Self → Bool };
 
-    /// What a stop at this tick may leave.
+    /// What a crash at this tick may leave.
     ghost left_at: { Self → ℕ → List ℕ → Type 0 };
 
     /// The tick of its last write or sync.
@@ -63,7 +63,7 @@ pub trait RawFile {
         ensures past { (k : ℕ) (left : List ℕ) → k < tick
             → left_at self.new k left ↔ left_at self.old k left };
 
-    /// From its last write or sync on a stop leaves the same.
+    /// From its last write or sync on a crash leaves the same.
     ghost stays: { (f : Self) (j k : ℕ) (left : List ℕ) → changed f ≤ j → changed f ≤ k → left_at f j left → left_at f k left };
 
     /// A stop may leave what reads show.

@@ -73,7 +73,7 @@ module _ (letters : CaseTable) (tree : Tree) (P : PackageContent) where
     pub stream : bytes ≡ pool_stream (recounted P).pool
 
 module _ {F : Type 0} {g : Ghosts F} where
-  -- THE PACKAGE IN A SOUND FILE: the file means a tree that packs it, and names are compared under this letter table, which leaves encoded
+  -- THE PACKAGE IN A SOUND FILE: the file means a tree that packs it, and names are compared under this case table, which leaves encoded
   -- ones alone
   pub record IsPackageIn (letters : CaseTable) (it : CompoundFile F g) (tree : Tree) (P : PackageContent) : Type 0 where
     pub compared : file_case_table it ≡ letters

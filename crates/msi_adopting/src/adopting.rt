@@ -34,7 +34,7 @@ use std::alloc::Global;
 const LAST_PLACE: u32 = 16777215;
 
 /// Makes a copy of a package in an empty medium, in which each text is counted as often as cells use it: the first stream of its pool
-/// says so, and all else is as it was. The copy is then a sound package. Names are compared under the letter table, which is that of the
+/// says so, and all else is as it was. The copy is then a sound package. Names are compared under the case table, which is that of the
 /// package. What opening refuses is refused so. `InvalidData` where the container isn't sound, and where a sound package breaks
 /// another rule than that on counts: just where it can't be adopted. That is also where a text is used more often than 65535 times or by
 /// no cell, or a cell names none. `InvalidInput` where a text of the pool has 2^32 - 1 bytes or more, or the pool's first stream

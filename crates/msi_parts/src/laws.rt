@@ -29,7 +29,7 @@ pub fn selected_rows_are_whole()
         → IfOk (selected tables pool asked) HasFullRows }
 {}
 
-/// A tree packs a sound package exactly where its parts are judged so, under a letter table that leaves encoded names alone.
+/// A tree packs a sound package exactly where its parts are judged so, under a case table that leaves encoded names alone.
 pub fn sound_parts_are_judged_so()
     ensures { (letters : CaseTable) (tree : Tree) (kind : PackageType) (summary : SetState)
         (pool : Pool) (gives_back : Bool) (headings : List Heading)

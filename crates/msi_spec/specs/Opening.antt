@@ -24,7 +24,7 @@ use Rattle.cfb_medium.specs.declared.error.Error.TheVariants.{InvalidData, Inval
 abbrev pub is_encoded : ℕ → Bool
 is_encoded c = is_between 0x3800 0x4840 c
 
--- the letter table leaves encoded names alone
+-- the case table leaves encoded names alone
 abbrev pub keeps_encoded_names : CaseTable → Bool
 keeps_encoded_names letters = list_all (λ pair. not (is_encoded pair.0) && not (is_encoded pair.1)) letters
 

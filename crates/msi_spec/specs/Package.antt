@@ -110,7 +110,7 @@ module _ (letters : CaseTable) where
   is_own P o = list_any (λ name. is_same_name letters name (object_name o))
       (summary_name ∷ stream_name pool_name ∷ stream_name data_name ∷ map (λ t. stream_name t.name) P.tables)
 
-  -- The tree packs the package, under a letter table by which names are told apart.
+  -- The tree packs the package, under a case table by which names are told apart.
   pub record TreePacksPackage (tree : Tree) (P : PackageContent) : Type 0 where
     pub class : tree.root.clsid ≡ class_of P.kind
     pub pool_bytes : List ℕ

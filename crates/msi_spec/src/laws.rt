@@ -35,7 +35,7 @@ ghost use Rattle.msi_spec.specs.Streams.{may_name, plain_stream_name, special_na
 ghost use Rattle.msi_spec.specs.Uses.{RefcountsAreExact, CountsDown};
 ghost use Rattle.msi_spec.specs.declared.kind.PackageType.{PackageType};
 
-/// Under any letter table two names that streams may have are of one stream exactly where their encoded
+/// Under any case table two names that streams may have are of one stream exactly where their encoded
 /// names have one key.
 pub fn streams_are_told_by_keys()
     ensures { (letters : CaseTable) (one other : List ℕ) → may_name letters one ≡ Ok tt
@@ -52,7 +52,7 @@ pub fn sound_packages_count_their_texts()
         → RefcountsMatchRows t.columns (refcounts_of (remove P.tables k)) P.pool t.rows }
 {}
 
-/// A tree packs at most one package, whatever the letter table.
+/// A tree packs at most one package, whatever the case table.
 pub fn trees_pack_one_package()
     ensures { (letters : CaseTable) (tree : Tree) (P Q : PackageContent)
         → TreePacksPackage letters tree P
@@ -67,7 +67,7 @@ pub fn packages_are_packed_in_three_parts()
         × HasSummary letters tree P.summary) }
 {}
 
-/// A tree that packs a package is opened, with its kind, summary and pool, where the letter table leaves encoded names alone.
+/// A tree that packs a package is opened, with its kind, summary and pool, where the case table leaves encoded names alone.
 pub fn packed_trees_are_opened()
     ensures { (letters : CaseTable) (tree : Tree) (P : PackageContent)
         → TreePacksPackage letters tree P
@@ -180,7 +180,7 @@ pub fn names_lead_to_objects()
         → stream_at letters (objects tree.content) name ≡ None }
 {}
 
-/// Under a letter table that leaves encoded characters alone, a name of such characters is the one name of its key. The names of
+/// Under a case table that leaves encoded characters alone, a name of such characters is the one name of its key. The names of
 /// tables' streams are such, and are told apart as the tables' names are.
 pub fn encoded_names_are_told_by_their_characters()
     ensures key { (letters : CaseTable) (one other : List ℕ) → keeps_encoded_names letters ≡ true

@@ -32,7 +32,7 @@ use std::rc::Rc;
 /// unknown one); the summary and the pool (`NotFound` where a stream of theirs is missing, `InvalidData` or `UnexpectedEof` where it
 /// can't be read); and the tables that the system tables describe (`InvalidData` where they describe none, or have too many rows).
 /// `InvalidData` too where the chain of a stream breaks that lies on the way; those of other streams may break. Other errors are
-/// faults. The file is only read, and whether its letter table may be used is not asked.
+/// faults. The file is only read, and whether its case table may be used is not asked.
 pub fn read_parts<F: ReadMedium>(
     alloc: Global,
     file: &mut CompoundFile<F>,

@@ -19,7 +19,7 @@ use msi_texts::{
     DIGITAL_SIGNATURE_STREAM_NAME, MSI_DIGITAL_SIGNATURE_EX_STREAM_NAME, SUMMARY_INFO_STREAM_NAME,
 };
 
-// Removes the stream that has this name in the container, where one is there. A letter table under which the name is the summary's
+// Removes the stream that has this name in the container, where one is there. A case table under which the name is the summary's
 // leaves none to remove.
 fn remove_named<F: Medium>(file: &mut CompoundFile<F>, name: &str) -> Result<(), Error>
     requires path { names_in name.now ≡ Some (chars name.now ∷ []) }

@@ -1,4 +1,4 @@
--- What a stop may leave of the two files.
+-- What a crash may leave of the two files.
 use Rattle.std.specs.Prelude.{◌≡◌, ℕ, ◌≤◌}
 use Rattle.staged.specs.declared.device.Which.{Which}
 use Rattle.staged.specs.Files.{Files, file_of}

@@ -1,4 +1,4 @@
--- What a stop may leave after calls that were made: of each file what its last sync made last, but for the ranges written since.
+-- What a crash may leave after calls that were made: of each file what its last sync made last, but for the ranges written since.
 use Rattle.std.specs.Prelude.{All, ◌≡◌, ◌⊎◌, ℕ, ◌+◌, ◌<◌, ◌≤◌, List, [], ◌∷◌, ◌++◌, length, take, slice_index}
 use Rattle.cfb_medium.specs.Bytes.{overwritten}
 use Rattle.staged.specs.declared.device.Which.{Which}
@@ -7,7 +7,7 @@ use Rattle.staged.specs.declared.calls.Call.{Call}
 use Rattle.staged.specs.declared.calls.Call.TheVariants.{Write, Sync}
 use Rattle.staged.specs.Files.{Files}
 
--- a call on which it depends what a stop may leave: bytes are written at a place of a file, or a file is synced
+-- a call on which it depends what a crash may leave: bytes are written at a place of a file, or a file is synced
 pub data Made : Type 0 where
   wrote : Which → ℕ → List ℕ → Made
   synced : Which → Made
@@ -51,16 +51,16 @@ pub record MayStand (s : Standing) (left : List ℕ) : Type 0 where
   pub no_longer : length left ≤ length s.shown
   pub apart : (at : ℕ) → at < length s.kept → All (λ r. (at < r.0) ⊎ (r.0 + r.1 ≤ at)) s.ranges → slice_index left at ≡ slice_index s.kept at
 
--- a stop after these calls may leave this of two files that were these at first
+-- a crash after these calls may leave this of two files that were these at first
 pub record MayBeLeft (first : Files) (calls : List Made) (left : Files) : Type 0 where
   pub home : MayStand (after_calls Home (standing first.home) calls) left.home
   pub log : MayStand (after_calls Log (standing first.log) calls) left.log
 
--- a stop after at least this many of the calls might have left it
+-- a crash after at least this many of the calls might have left it
 abbrev pub MightBeLeft : Files → List Made → ℕ → Files → Type 0
 MightBeLeft first calls least left = (k : ℕ) × (least ≤ k) × (k ≤ length calls) × MayBeLeft first (take k calls) left
 
--- what a file shows after these calls, and that a stop may leave it so
+-- what a file shows after these calls, and that a crash may leave it so
 pub record IsStanding (s : Standing) (bytes : List ℕ) : Type 0 where
   pub shown : s.shown ≡ bytes
   pub stands : MayStand s bytes

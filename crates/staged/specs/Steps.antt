@@ -29,7 +29,7 @@ IsBehindLogFlag at n = 1 ≤ at
 abbrev pub AtPage : List Page → ℕ → ℕ → ℕ → Type 0
 AtPage pages len at n = (number : ℕ) × HoldsPage pages number × (at ≡ 512 * number) × (n ≡ min (len - 512 * number) 512)
 
--- a stop leaves what is shown
+-- a crash leaves what is shown
 abbrev pub IsDurable : {D : Type 0} → Ghosts D → D → Type 0
 IsDurable g d = (left : Files) → g.crash_may_leave d left → left ≡ g.content d
 

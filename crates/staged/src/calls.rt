@@ -1,7 +1,7 @@
 //! Calls that were made to a device in memory.
 use crate::Which;
 
-/// A call on which it depends what a stop may leave.
+/// A call on which it depends what a crash may leave.
 #[derive(Drop)]
 pub enum Call {
     /// These bytes were written at this place.

@@ -1,4 +1,4 @@
-//! A file in memory, with what a stop may leave of it.
+//! A file in memory, with what a crash may leave of it.
 ghost use Rattle.std.specs.Prelude.{IsTrue, ◌≡◌, ◌≢◌, ◌≤◌, ◌<◌, ◌+◌, ◌⊎◌, ◌↔◌, All, ℕ, true, length, is_some, OnOk, OnErr, vec_len};
 ghost use Rattle.cfb_medium.specs.Bytes.{overwritten, Serves};
 ghost use Rattle.staged.specs.Files.{file_of, with_file};
@@ -145,7 +145,7 @@ impl MemoryFile {
         true
     }
 
-    /// Whether a stop may leave these bytes of it.
+    /// Whether a crash may leave these bytes of it.
     pub fn may_stand(&self, left: &[u8]) -> bool
         ensures { IsTrue result ↔ MayStand (standing_of self.now) left.now }
     {

@@ -6,10 +6,10 @@ use msi_spec::PackageType;
 use std::alloc::Global;
 use test_support::{Survivor, runs};
 
-/// A package of which a stop leaves what was committed.
+/// A package of which a crash leaves what was committed.
 pub type Stored = Package<Survivor>;
 
-/// A medium of which a stop leaves these bytes.
+/// A medium of which a crash leaves these bytes.
 pub fn medium_of(alloc: Global, bytes: &[u8]) -> Result<Survivor, Error> {
     let mut medium = Survivor::new(alloc)?;
     medium.write_at(0, bytes)?;
@@ -34,7 +34,7 @@ pub fn create(alloc: Global) -> Result<Stored, Error> {
     }
 }
 
-/// The medium of a package, with what a stop leaves of it.
+/// The medium of a package, with what a crash leaves of it.
 pub fn left_of(package: Stored) -> Result<Survivor, Error> {
     let mut medium = package.into_medium();
     match medium.roll_back() {

@@ -33,7 +33,7 @@ impl<'a> Packages<'a> {
         self.take(alloc, open(alloc, medium_of(alloc, &bytes)?, letters))
     }
 
-    // Goes on with what a stop leaves, opened again.
+    // Goes on with what a crash leaves, opened again.
     fn open_again(&mut self, alloc: Global) -> Result<String, Error> {
         match self.package.take() {
             Some(package) => self.open(alloc, left_of(package)?),
@@ -63,7 +63,7 @@ impl<'a> Packages<'a> {
     }
 }
 
-// The letter table of the pair that stands behind a row's path, or that of a to z.
+// The case table of the pair that stands behind a row's path, or that of a to z.
 fn letters_of(alloc: Global, row: &Row) -> Result<CaseMapper, Error> {
     let pair = (row.text(2).chars().next(), row.text(3).chars().next());
     match pair {

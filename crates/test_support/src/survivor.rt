@@ -8,7 +8,7 @@ ghost use Rattle.cfb_medium.specs.Memory.{memory_bytes};
 use cfb_medium::{Error, Medium, MemoryMedium, ReadMedium};
 use std::alloc::Global;
 
-/// Bytes in memory, and each list of bytes that a stop might have left so far: those from `first` on may still be left.
+/// Bytes in memory, and each list of bytes that a crash might have left so far: those from `first` on may still be left.
 #[derive(Drop)]
 pub struct Survivor {
     alloc: Global,
@@ -21,7 +21,7 @@ pub struct Survivor {
 impl Survivor {
     ghost use Rattle.test_support.specs.Survivor.{lists_kept, IsKeptAlone};
 
-    /// An empty medium, of which a stop leaves no bytes.
+    /// An empty medium, of which a crash leaves no bytes.
     pub fn new(alloc: Global) -> Result<Self, Error>
         ensures bytes { IfOk result (λ m. ⟦<Survivor as ReadMedium>⟧.bytes m ≡ []) }
         ensures left { IfOk result (λ m. IsKeptAlone m []) }
@@ -37,7 +37,7 @@ impl Survivor {
         })
     }
 
-    // Adds the bytes to what a stop may leave.
+    // Adds the bytes to what a crash may leave.
     fn keep(&mut self) -> Result<(), Error>
         ensures ok { OnOk result (lists_kept self.new
             ≡ lists_kept self.old ++ memory_bytes self.old.shown ∷ []) }
