@@ -8,6 +8,7 @@ use crate::texts::{INPUT, commands_of, name_of};
 use cfb_medium::Error;
 use installer::Command;
 use installer_runs::Until;
+use msi_export::moment_in;
 use package_files::{
     Failure, Names, tell, tell_failure, tell_trouble, trouble_at, trouble_of_kind,
 };
@@ -261,17 +262,16 @@ fn text_of_cleared(alloc: Global, name: &str) -> Result<String, AllocError> {
     format!(in alloc; r#"[{{"op":"set_summary","field":{field},"value":null}},{{"op":"commit"}}]"#)
 }
 
-// The value of a field in JSON: numbers as they stand, several texts or numbers as a list.
+// The value of a field in JSON: numbers as they stand, a moment by its tenths of a microsecond, several texts or numbers as a list.
 fn json_of_field(alloc: Global, name: &str, value: &str) -> Result<String, AllocError> {
     match name {
-        "codepage"
-        | "last_printed"
-        | "creation_time"
-        | "last_saved_time"
-        | "page_count"
-        | "word_count"
-        | "character_count"
-        | "doc_security" => String::from_str(alloc, value),
+        "codepage" | "page_count" | "word_count" | "character_count" | "doc_security" => {
+            String::from_str(alloc, value)
+        }
+        "last_printed" | "creation_time" | "last_saved_time" => match moment_in(value) {
+            Some(units) => format!(in alloc; "{units}"),
+            None => String::from_str(alloc, value),
+        },
         "languages" => format!(in alloc; "[{value}]"),
         "keywords" => list_of(alloc, value),
         _ => quoted(alloc, value),

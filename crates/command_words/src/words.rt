@@ -376,7 +376,7 @@ fn or_summary<'a>(alloc: Global, command: Command<'a>) -> Result<Command<'a>, Al
 
 // What stands behind the help of the words on one property.
 fn help_on_properties<'a>() -> &'a str {
-    "Example: msidb set setup.msi ProductVersion 1.2.3\nA property is a row of the table Property. Each of these words commits once, or changes nothing.\nFields of the summary: title subject author keywords comments arch languages last_saved_by uuid last_printed creation_time last_saved_time\npage_count word_count character_count creating_application doc_security codepage. Several keywords or languages stand with commas between\nthem; a time is a number of tenths of a microsecond since 1601.\nStatus: 0 done, 1 there is none, or a rule refused it, 3 a fault, or files that were refused."
+    "Example: msidb set setup.msi ProductVersion 1.2.3\nA property is a row of the table Property. Each of these words commits once, or changes nothing.\nFields of the summary: title subject author keywords comments arch languages last_saved_by uuid last_printed creation_time last_saved_time\npage_count word_count character_count creating_application doc_security codepage. Several keywords or languages stand with commas between\nthem; a time is as 2024-09-05T08:53:20Z, in UTC.\nStatus: 0 done, 1 there is none, or a rule refused it, 3 a fault, or files that were refused."
 }
 
 // The word that tells a property.

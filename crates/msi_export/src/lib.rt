@@ -4,6 +4,7 @@
 mod headings;
 mod laws;
 mod losses;
+mod moments;
 mod names;
 mod order;
 mod properties;
@@ -17,6 +18,7 @@ pub use laws::{
     numbered_names_have_different_files,
 };
 pub use losses::{Loss, loss_of_property, loss_of_row};
+pub use moments::{moment_in, moment_text};
 pub use names::{file_name_of, safe_name};
 pub use order::sorted_rows;
 pub use properties::property_name;

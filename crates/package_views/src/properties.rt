@@ -8,6 +8,7 @@ use crate::refusals::tell_why_refused;
 use cfb_medium::Error;
 use msi::Package;
 use msi_columns::Column;
+use msi_export::moment_text;
 use msi_props::PropertyValue;
 use msi_tables::Row;
 use msi_values::Value;
@@ -116,6 +117,7 @@ fn tell_nothing<E: Write>(path: &str, name: &str, sought: &Sought, err: &mut E) 
             err,
             "msidb: {path}: no summary has a field {name}; `msidb get --help` tells the fields"
         ),
+        _ if name.is_empty() => writeln!(err, "msidb: {path}: nothing has an empty name"),
         _ => writeln!(err, "msidb: {path}: no {name}"),
     };
 }
@@ -197,14 +199,18 @@ fn field_in(alloc: Global, package: &Package<Shown>, field: &str) -> Result<Soug
     Ok(Sought::Nothing)
 }
 
-// A property as a field's text: several keywords or languages with commas, a time in tenths of a microsecond.
+// A property as a field's text: several keywords or languages with commas, a moment by ISO 8601, in UTC.
 fn text_of_field(alloc: Global, field: &str, value: &PropertyValue) -> Result<String, AllocError> {
     match value {
         PropertyValue::LpStr(text) => part_of_text(alloc, field, text),
         PropertyValue::I1(number) => format!(in alloc; "{number}"),
         PropertyValue::I2(number) => format!(in alloc; "{number}"),
         PropertyValue::I4(number) => format!(in alloc; "{number}"),
-        PropertyValue::FileTime(_) => units_of(alloc, value),
+        PropertyValue::FileTime(moment) => match moment_text(alloc, *moment)? {
+            Some(text) => Ok(text),
+            // (past the year 9999: in tenths of a microsecond)
+            None => units_of(alloc, value),
+        },
         PropertyValue::Empty | PropertyValue::Null => Ok(String::new(alloc)),
     }
 }
