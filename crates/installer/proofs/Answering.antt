@@ -2,7 +2,7 @@
 use Rattle.std.proofs.Common.{◌≡◌, ◌⊎◌, ◌≤◌, ◌||◌, ◌∙◌, Bool, ap, ap₂, arith, false, inl, inr, refl, rules, subst, sym, true, ⊎_elim}
 use Rattle.std.proofs.lemmas.Bool.{both_ways}
 use Rattle.std.proofs.lemmas.Result.{IfErr-weaker}
-use Rattle.std.specs.Prelude.{Err, IfErr, Ok, Result}
+use Rattle.std.specs.Prelude.{Err, IfErr, Ok, Result, not}
 use Rattle.cfb.specs.Publishing.{medium_in}
 use Rattle.cfb.specs.Views.{mini_of}
 use Rattle.cfb.specs.declared.compound_file.CompoundFile.{CompoundFile}
@@ -16,7 +16,7 @@ use Rattle.cfb_medium.specs.declared.medium.ReadMedium.{Ghosts}
 use Rattle.cfb_mini.specs.Views.{allocator_of}
 use Rattle.cfb_chain_io.specs.ChainEffects.{KeepsFileInvariants}
 use Rattle.command_file.specs.Request as asked
-use Rattle.command_file.specs.Request.{Request, is_changing, is_codepage, is_reading}
+use Rattle.command_file.specs.Request.{Request, is_changing, is_codepage, is_reading, is_writing}
 use Rattle.msi.specs.Changing.{permission, IsRemovalError, KeepsHeld, PackageChanges, PackageWrites}
 use Rattle.msi.specs.Opened.{file_in, sound_in, PackageHasContent, OnlyReadsPackage}
 use Rattle.msi.specs.declared.package.Package.{Package}
@@ -24,15 +24,15 @@ use Rattle.msi_spec.specs.Package.{PackageContent}
 use Rattle.msi_stored.proofs.StoredLaws.{file_refl}
 use Rattle.msi_stored.specs.Changing.{PackageRule}
 use Rattle.installer.proofs.Faults.{own_fault_of}
-use Rattle.installer.proofs.Going.{err_is, goes_changes, goes_lost, goes_told, moves_on, no_commit_read, not_ok, step_of_reading, unchanging, unread, Moves, StepOr}
+use Rattle.installer.proofs.Going.{err_is, goes_changes, goes_lost, goes_told, moves_on, no_commit, no_commit_read, not_ok, step_of_reading, step_refused, unchanging, unread, unwritten, unwritten_read, Moves, StepOr}
 use Rattle.installer.proofs.Resting.{keeps_rests, rests_on}
 use Rattle.installer.proofs.Writing.{goes_writes}
-use Rattle.installer.specs.Behaviour.{BehavesOnce}
+use Rattle.installer.specs.Behaviour.{BehavesOnce, is_answer_to}
 use Rattle.installer.specs.SessionStates.{SessionState, takes_room}
 use Rattle.installer.specs.CommandRuns.{RunsWithoutPublishing}
 use Rattle.installer.specs.Reply.{Reply}
 use Rattle.installer.specs.Reply as told
-use Rattle.installer.specs.Sessions.{condition_of, has_base, is_failed, package_in, phase_of, IsAt}
+use Rattle.installer.specs.Sessions.{condition_of, has_base, is_failed, is_sound, package_in, phase_of, IsAt}
 use Rattle.installer.specs.Sessions.{session_case_table as session_letters}
 use Rattle.installer.specs.Step.{Reads, PackageStep, told_of}
 use Rattle.installer.specs.declared.session.SessionOver.{SessionOver}
@@ -98,6 +98,11 @@ pub told_error : (result : Result (Unit {0}) Error) (reply : Reply) (P : Error �
 told_error (Ok u) reply P e is each refused = let never : told.done ≡ told.refused e = sym is ∙ refused in absurd (cc)
 told_error (Err own) reply P e is each refused = let both : told.refused own ≡ told.refused e = sym is ∙ refused in subst P (same_refusal own e both) each
 
+-- that it was done, or why not, answers what reads nothing
+pub told_kind : (request : Request) → is_reading request ≡ false → (result : Result (Unit {0}) Error) (reply : Reply) → reply ≡ told_of result → is_answer_to request reply ≡ true
+told_kind request unread (Ok u) reply is = ap (is_answer_to request) is ∙ ap not unread
+told_kind request unread (Err e) reply is = ap (is_answer_to request) is
+
 -- an error is told
 abbrev pub is_refused : Reply → Bool
 is_refused (told.refused e) = true
@@ -113,12 +118,14 @@ no_codepage request is = refl
 -- how one behaves after a fault
 pub behaves_ended : {F : Type 0} {g : Ghosts F} (it : SessionOver F g) (request : Request) → is_failed it ≡ true → BehavesOnce (condition_of it) request (told.refused Failed) (condition_of it)
 behaves_ended it request failed = record {
+  kind = refl;
   ended = λ _ _. (refl, refl);
   live = λ live _. both_ways (is_failed it) live failed;
   device = λ is. absurd (cc);
   reading = λ _. refl;
   codepage = λ live. absurd (both_ways (is_failed it) live failed);
   unsound = λ live. absurd (both_ways (is_failed it) live failed);
+  writing = λ live. absurd (both_ways (is_failed it) live failed);
   sound = refl;
   counted = omega arith;
 }
@@ -128,17 +135,20 @@ pub behaves_live : {F : Type 0} {g : Ghosts F} (refl_continues : (m : F) → g.c
     → g.failures (medium_in (file_in (package_in old))) ≤ g.failures (medium_in (file_in (package_in new))) → sound_in (package_in new) ≡ sound_in (package_in old)
     → ((e : Error) → reply ≡ told.refused e → IsJustifiedBySectors (allocator_of (mini_of (file_in (package_in old)))) (allocator_of (mini_of (file_in (package_in new)))) e)
     → ((e : Error) → reply ≡ told.refused e → is_codepage request ≡ false) → (is_reading request ≡ true → is_failed new ≡ false)
-    → (sound_in (package_in old) ≡ false → is_changing request ≡ true → (reply ≡ told.refused InvalidData) ⊎ (reply ≡ told.refused Memory))
+    → (sound_in (package_in old) ≡ false → is_changing request ≡ true → reply ≡ told.refused InvalidData)
+    → (sound_in (package_in old) ≡ false → is_writing request ≡ true → reply ≡ told.done) → is_answer_to request reply ≡ true
     → BehavesOnce (condition_of old) request reply (condition_of new)
-behaves_live refl_continues old new live request reply counted sound caused other reading unsound =
+behaves_live refl_continues old new live request reply counted sound caused other reading unsound writing kind =
     let start = medium_in (file_in (package_in old)) in
     record {
+      kind = kind;
       ended = λ failed _. absurd (both_ways (is_failed old) live failed);
       live = λ _ is. both_ways (is_failed old) live ((caused Failed is start (refl_continues start)).earlier refl);
       device = λ is. (caused Device is start (refl_continues start)).device refl;
       reading = λ is. reading is ∙ sym live;
       codepage = λ _ page e is. both_ways (is_codepage request) (other e is) page;
       unsound = λ _. unsound;
+      writing = λ _. writing;
       sound = sound;
       counted = counted;
     }
@@ -164,7 +174,7 @@ module _ {F : Type 0} {g : Ghosts F} (refl_continues : (m : F) → g.continues m
     behaves = behaves_live refl_continues old new live request reply (moves_on refl_continues continues_keeps (package_in old) (package_in new) on changes.seen.1).counted changes.seen.1
         (λ e told. told_error result reply (IsJustifiedBySectors (allocator_of (mini_of (file_in (package_in old)))) (allocator_of (mini_of (file_in (package_in new))))) e is cause told)
         (λ e told. no_codepage request changing) (λ reads. absurd (both_ways (is_reading request) (unread request changing) reads))
-        (λ unsound _. inl (is ∙ ap told_of (changes.unsound live unsound).0));
+        (λ unsound _. is ∙ ap told_of (changes.unsound live unsound).0) (λ _ writes. absurd (both_ways (is_writing request) (unwritten request changing) writes)) (told_kind request (unread request changing) result reply is);
     based = based;
     quiet = on;
   }
@@ -194,7 +204,7 @@ module _ {F : Type 0} {g : Ghosts F} (refl_continues : (m : F) → g.continues m
     };
     behaves = behaves_live refl_continues old new live asked.flush reply (moves_on refl_continues continues_keeps (package_in old) (package_in new) on writes.seen.1).counted writes.seen.1
         (λ e told. told_error result reply (IsJustifiedBySectors (allocator_of (mini_of (file_in (package_in old)))) (allocator_of (mini_of (file_in (package_in new))))) e is cause told)
-        (λ e told. refl) (λ reads. absurd (cc)) (λ unsound changes. absurd (cc));
+        (λ e told. refl) (λ reads. absurd (cc)) (λ unsound changes. absurd (cc)) (λ unsound _. is ∙ ap told_of (writes.unsound live unsound).0) (told_kind asked.flush refl result reply is);
     based = based;
     quiet = on;
   }
@@ -218,25 +228,25 @@ module _ {F : Type 0} {g : Ghosts F} (refl_continues : (m : F) → g.continues m
 
     behaves_reading : (request : Request) (reply : Reply) → is_reading request ≡ true
         → ((e : Error) → reply ≡ told.refused e → IsJustifiedBySectors (allocator_of (mini_of (file_in (package_in old)))) (allocator_of (mini_of (file_in (package_in new)))) e)
-        → ((e : Error) → reply ≡ told.refused e → is_codepage request ≡ false) → BehavesOnce (condition_of old) request reply (condition_of new)
-    behaves_reading request reply reading caused other =
+        → ((e : Error) → reply ≡ told.refused e → is_codepage request ≡ false) → is_answer_to request reply ≡ true → BehavesOnce (condition_of old) request reply (condition_of new)
+    behaves_reading request reply reading caused other kind =
         behaves_live refl_continues old new live request reply moves.counted rests.sound caused other (λ _. rested)
-        (λ _ changing. absurd (both_ways (is_changing request) (unchanging request reading) changing))
+        (λ _ changing. absurd (both_ways (is_changing request) (unchanging request reading) changing)) (λ _ writes. absurd (both_ways (is_writing request) (unwritten_read request reading) writes)) kind
 
     held_at : (start : SessionState) → IsAt (package_in old) start → PackageHasContent (package_in old) start.held
     held_at start at = at.held (at.phase ∙ ap phase_of live)
 
     -- a call that reads, whose answer is that of the package that is held
-    pub answers_told : (request : Request) (reply : Reply) → is_reading request ≡ true → is_refused reply ≡ false
+    pub answers_told : (request : Request) (reply : Reply) → is_reading request ≡ true → is_refused reply ≡ false → is_answer_to request reply ≡ true
         → ((P : PackageContent) → PackageHasContent (package_in old) P → PackageStep (session_letters old) P request reply P) → RunsWithoutPublishing request reply old new
-    answers_told request reply reading other step = record {
+    answers_told request reply reading other kind step = record {
       by_rule = record {
         goes = λ start at. goes_told refl_continues (package_in old) (package_in new) start at live moves request reply (no_commit_read request reading) keeps
             (step_of_reading (session_letters old) start.sound start.held start.held request reply (unchanging request reading) (step start.held (held_at start at)));
         letters = rests.file.letters;
         sound = rests.sound;
       };
-      behaves = behaves_reading request reply reading (λ e is. absurd (no_refusal reply e other is)) (λ e is. absurd (no_refusal reply e other is));
+      behaves = behaves_reading request reply reading (λ e is. absurd (no_refusal reply e other is)) (λ e is. absurd (no_refusal reply e other is)) kind;
       based = based;
       quiet = on;
     }
@@ -257,14 +267,14 @@ module _ {F : Type 0} {g : Ghosts F} (refl_continues : (m : F) → g.continues m
         sound = rests.sound;
       };
       behaves = behaves_reading request (told.refused e) reading
-          (λ f is. subst (IsJustifiedBySectors (allocator_of (mini_of (file_in (package_in old)))) (allocator_of (mini_of (file_in (package_in new))))) (same_refusal e f is) cause) (λ f is. other);
+          (λ f is. subst (IsJustifiedBySectors (allocator_of (mini_of (file_in (package_in old)))) (allocator_of (mini_of (file_in (package_in new))))) (same_refusal e f is) cause) (λ f is. other) refl;
       based = based;
       quiet = on;
     }
 
-    -- there is no memory for the answer
-    pub answers_memory : (request : Request) (e : Error) → is_codepage request ≡ false → e ≡ Memory → RunsWithoutPublishing request (told.refused e) old new
-    answers_memory request e other is = record {
+    -- there is no memory for the answer of what reads, or for a change of a sound package
+    pub answers_memory : (request : Request) (e : Error) → is_codepage request ≡ false → e ≡ Memory → (is_sound old ≡ false → is_reading request ≡ true) → RunsWithoutPublishing request (told.refused e) old new
+    answers_memory request e other is reads = record {
       by_rule = record {
         goes = λ start at. goes_lost refl_continues (package_in old) (package_in new) start at live moves request e keeps other (inl (inl is));
         letters = rests.file.letters;
@@ -272,7 +282,24 @@ module _ {F : Type 0} {g : Ghosts F} (refl_continues : (m : F) → g.continues m
       };
       behaves = behaves_live refl_continues old new live request (told.refused e) moves.counted rests.sound
           (λ f told. cause_own (package_in old) (package_in new) f (memory_own f (sym (same_refusal e f told) ∙ is))) (λ f told. other) (λ _. rested)
-          (λ _ _. inr (ap (λ f. told.refused f) is));
+          (λ unsound changes. absurd (both_ways (is_changing request) (unchanging request (reads unsound)) changes))
+          (λ unsound writes. absurd (both_ways (is_writing request) (unwritten_read request (reads unsound)) writes)) refl;
+      based = based;
+      quiet = on;
+    }
+
+    -- a change of a package that isn't sound
+    pub answers_unsound : (request : Request) → is_changing request ≡ true → is_sound old ≡ false → RunsWithoutPublishing request (told.refused InvalidData) old new
+    answers_unsound request changing unsound = record {
+      by_rule = record {
+        goes = λ start at. goes_told refl_continues (package_in old) (package_in new) start at live moves request (told.refused InvalidData) (no_commit request changing) keeps
+            (rw (at.sound ∙ unsound) (step_refused (session_letters old) start.held request changing));
+        letters = rests.file.letters;
+        sound = rests.sound;
+      };
+      behaves = behaves_live refl_continues old new live request (told.refused InvalidData) moves.counted rests.sound
+          (λ f told. cause_own (package_in old) (package_in new) f (data_own f (sym (same_refusal InvalidData f told)))) (λ f told. no_codepage request changing) (λ _. rested)
+          (λ _ _. refl) (λ _ writes. absurd (both_ways (is_writing request) (unwritten request changing) writes)) refl;
       based = based;
       quiet = on;
     }

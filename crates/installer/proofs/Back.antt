@@ -18,7 +18,7 @@ use Rattle.command_file.specs.Request.{is_roll_back}
 use Rattle.command_file.specs.RequestsOf.{request_of}
 use Rattle.command_file.specs.declared.command.Command.{Command}
 use Rattle.command_file.specs.declared.command.Command.TheVariants as command
-use Rattle.msi.proofs.OpenAgain.{never_refused, same_package, sound_file}
+use Rattle.msi.proofs.OpenAgain.{held_rest, never_refused, same_package, sound_file}
 use Rattle.msi.specs.Changing.{PackageCanBeWritten}
 use Rattle.msi.specs.Committing.{BytesHoldPackage}
 use Rattle.msi.specs.Opened.{file_in, OnlyReadsPackage}
@@ -30,8 +30,8 @@ use Rattle.staged.specs.Committed.{HasPublished}
 use Rattle.staged.specs.Staged.{device_of}
 use Rattle.staged.specs.declared.device.Device as device
 use Rattle.staged.specs.declared.staged.Staged.{Staged}
-use Rattle.installer.proofs.Answering.{told_error}
-use Rattle.installer.proofs.Based.{base_of, some_sound}
+use Rattle.installer.proofs.Answering.{told_error, told_kind}
+use Rattle.installer.proofs.Based.{base_of, same_storages, some_sound}
 use Rattle.installer.proofs.Faults.{fault_kinds}
 use Rattle.installer.proofs.Following.{marks_other, published_on, still}
 use Rattle.installer.proofs.Going.{package_live}
@@ -89,12 +89,14 @@ module _ {D : Type 0} {g : device.Ghosts D} {h : Ghosts (Staged D g)}
     follows_over ended none = idle_follows (told.refused Failed)
         (λ start at. over (λ sound. none_of start.base (at.based ∙ none (sym at.place.sound ∙ sound))) (at.place.phase ∙ ap phase_of ended) refl refl)
         (record {
+          kind = refl;
           ended = λ _ own. absurd (cc own);
           live = λ live _. both_ways (is_failed it) live ended;
           device = λ is. absurd (cc is);
           reading = λ _. refl;
           codepage = λ _ page. absurd (cc page);
           unsound = λ _ _ is. absurd (cc is);
+          writing = λ _ _ is. absurd (cc is);
           sound = refl;
           counted = omega arith;
         })
@@ -103,12 +105,14 @@ module _ {D : Type 0} {g : device.Ghosts D} {h : Ghosts (Staged D g)}
     follows_baseless live sound none = idle_follows (told.refused NotFound)
         (λ start at. baseless (at.place.sound ∙ sound) (none_of start.base (at.based ∙ none)) (at.place.phase ∙ ap phase_of live) refl refl (omega arith))
         (record {
+          kind = refl;
           ended = λ _ own. absurd (cc own);
           live = λ _ is. absurd (cc is);
           device = λ is. absurd (cc is);
           reading = λ _. refl;
           codepage = λ _ page. absurd (cc page);
           unsound = λ _ _ is. absurd (cc is);
+          writing = λ _ _ is. absurd (cc is);
           sound = refl;
           counted = omega arith;
         })
@@ -117,12 +121,14 @@ module _ {D : Type 0} {g : device.Ghosts D} {h : Ghosts (Staged D g)}
     follows_unchanged live unsound = idle_follows told.done
         (λ start at. unchanged (at.place.sound ∙ unsound) (at.place.phase ∙ ap phase_of live) refl refl (omega arith))
         (record {
+          kind = refl;
           ended = λ _ own. absurd (cc own);
           live = λ _ is. absurd (cc is);
           device = λ is. absurd (cc is);
           reading = λ _. refl;
           codepage = λ _ page. absurd (cc page);
           unsound = λ _ _ is. absurd (cc is);
+          writing = λ _ _ is. absurd (cc is);
           sound = refl;
           counted = omega arith;
         })
@@ -166,7 +172,14 @@ module _ {D : Type 0} {g : device.Ghosts D} {h : Ghosts (Staged D g)}
       of_base : (Holds : PackageContent → Type 0) → (BytesHoldPackage (session_case_table old) published.bytes base.0 → Holds base.0) → (B : PackageContent) → start.base ≡ Some B → PackageCanBeWritten B → Holds B
       of_base Holds each B is fit =
           let same = Some_same (sym base.1 ∙ is) in
-          subst Holds same (each (published.found (subst (λ (P : PackageContent). PackageCanBeWritten P) (sym same) fit)))
+          subst Holds same (each (published.found.1 (subst (λ (P : PackageContent). PackageCanBeWritten P) (sym same) fit)))
+
+      -- it has the storages of that package, whatever the texts
+      stored : (Q : PackageContent) → BytesHoldPackage (session_case_table old) published.bytes Q → (B : PackageContent) → start.base ≡ Some B → Q.storages ≡ B.storages
+      stored Q holds B is =
+          let same : base.0 ≡ B = Some_same (sym base.1 ∙ is) in
+          subst (λ (P : PackageContent). Q.storages ≡ P.storages) same
+          (same_storages (session_case_table old) published.bytes Q base.0 (held_rest (session_case_table old) published.bytes Q holds) published.found.0)
 
       goes_back : lower.PackageRollsBack (λ m. HasPublished g (device_of m)) (package_in old) (package_in new) → (end : SessionState) × SessionRollsBack start told.done end × SessionIsAt new end
       goes_back back =
@@ -175,7 +188,8 @@ module _ {D : Type 0} {g : device.Ghosts D} {h : Ghosts (Staged D g)}
           let found = some_sound (session_case_table old) published.bytes (package_in new) opened published.usable (judged ∙ sound) in
           let end = record start { held = found.0; failures = h.failures now; phase = running } in (
             end,
-            led is_start_sound refl (at.based ∙ some) (of_base (λ B. found.0 ≡ B) (λ holds. same_package (session_case_table old) published.bytes found.0 found.1 base.0 holds)) refl more,
+            led is_start_sound refl (at.based ∙ some) (of_base (λ B. found.0 ≡ B) (λ holds. same_package (session_case_table old) published.bytes found.0 found.1 base.0 holds))
+                (stored found.0 found.1) refl more,
             stands start end at (record { phase = ap phase_of (sym live); held = λ _. found.2; failures = refl; sound = at.place.sound ∙ sym judged }) refl refl,
           )
 
@@ -232,6 +246,7 @@ module _ {D : Type 0} {g : device.Ghosts D} {h : Ghosts (Staged D g)}
         letters = letters;
         sound = judged;
         behaves = record {
+          kind = told_kind asked.roll_back refl result (told_of result) refl;
           ended = λ _ own. absurd (cc own);
           live = λ live is. both_ways (is_failed old) live
               (second_true (has_failed_here (allocator_of (mini_of (file_in (package_in old))))) (h.failed was) ((told_error result (told_of result) (IsJustifiedError h.failures h.failed was now) Failed refl cause is).earlier refl));
@@ -239,6 +254,7 @@ module _ {D : Type 0} {g : device.Ghosts D} {h : Ghosts (Staged D g)}
           reading = λ is. absurd (cc is);
           codepage = λ _ page. absurd (cc page);
           unsound = λ _ _ is. absurd (cc is);
+          writing = λ _ _ is. absurd (cc is);
           sound = judged;
           counted = keeps.counted;
         };

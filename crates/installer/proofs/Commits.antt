@@ -7,7 +7,7 @@ use Rattle.cfb.specs.Views.{mini_of}
 use Rattle.cfb_fat.specs.Tables.{IsJustifiedBySectors}
 use Rattle.cfb_medium.specs.Crashes.{CrashLeavesOnly}
 use Rattle.cfb_medium.specs.declared.error.Error.{Error}
-use Rattle.cfb_medium.specs.declared.error.Error.TheVariants.{Device, Failed}
+use Rattle.cfb_medium.specs.declared.error.Error.TheVariants.{Device, Failed, InvalidInput}
 use Rattle.cfb_medium.specs.declared.medium.ReadMedium.{Ghosts}
 use Rattle.cfb_mini.specs.Views.{allocator_of}
 use Rattle.cfb_tree.specs.Names.{CaseTable}
@@ -25,16 +25,17 @@ use Rattle.staged.specs.declared.device.Device as device
 use Rattle.staged.specs.declared.staged.Staged.{Staged}
 use Rattle.installer.proofs.Begun.{begins_at}
 use Rattle.installer.proofs.Following.{not_failed_error, published_on, still}
-use Rattle.installer.proofs.Going.{by_sound, medium_live, more, undone_based}
-use Rattle.installer.proofs.Together.{behaves_before, goes_before, never_both, stands_by, StandsStill}
+use Rattle.installer.proofs.Faults.{fault_of}
+use Rattle.installer.proofs.Going.{by_sound, kept_based, medium_live, more, package_live, undone_based}
+use Rattle.installer.proofs.Together.{never_both}
 use Rattle.installer.proofs.Stopping.{survives_rest, survives_then}
-use Rattle.installer.proofs.Writing.{not_err, step_commit, unsaved, untouched}
+use Rattle.installer.proofs.Writing.{not_err, step_commit, too_long, untouched}
 use Rattle.installer.specs.Behaviour.{BehavesOnce, Condition}
 use Rattle.installer.specs.SessionStates.{failed, fails, marks_of, refuses, rolls, running, stays, steps, SessionState, CommandStep, StepAs}
 use Rattle.installer.specs.CommandRuns.{RunsWithoutPublishing, RunsCommand}
 use Rattle.installer.specs.Reply.{Reply}
 use Rattle.installer.specs.Reply as told
-use Rattle.installer.specs.Sessions.{beginning, condition_of, device_below, has_base, has_medium_failed, is_failed, is_sound, session_case_table, package_in, phase_of, IsPublished, SessionIsAt}
+use Rattle.installer.specs.Sessions.{beginning, condition_of, device_below, has_base, has_medium_failed, is_failed, is_sound, session_case_table, package_in, phase_of, IsAt, IsPublished, SessionIsAt}
 use Rattle.installer.specs.Step.{told_of}
 use Rattle.installer.specs.CrashSurvival.{IsRecovered, SurvivesCrash}
 use Rattle.installer.specs.declared.session.SessionOver.{SessionOver}
@@ -92,6 +93,30 @@ module _ {D : Type 0} {g : device.Ghosts D} {h : Ghosts (Staged D g)} where
         ⊎_elim (λ cut. ⊎_elim (λ fault. fault) (λ earlier. absurd (other earlier)) cut.1)
         (λ goes. absurd (both_ways (h.failed to) (sym (as_failed from to (goes.continues from (refl_continues from))) ∙ medium_live (package_in old) live) broken)) commits.quiet
 
+    -- a refusal by size comes before the medium's commit
+    medium_lives : (e : Error) → PackageCommits (λ m. HasPublished g (device_of m)) (Err e) (package_in old) (package_in new) → e ≡ InvalidInput → has_medium_failed new ≡ false
+    medium_lives e commits is =
+        let from = medium_in (file_in (package_in old)) in
+        let to = medium_in (file_in (package_in new)) in
+        ⊎_elim (λ cut. ⊎_elim (λ fault. absurd (let never : InvalidInput ≡ Device = sym is ∙ fault in cc never)) (λ earlier. absurd (let never : InvalidInput ≡ Failed = sym is ∙ earlier in cc never)) cut.1)
+        (λ goes. sym (as_failed from to (goes.continues from (refl_continues from))) ∙ medium_live (package_in old) live) commits.quiet
+
+    -- of a sound package: there was a fault, or it is kept since something is too long
+    refused_goes : (e : Error) → PackageCommits (λ m. HasPublished g (device_of m)) (Err e) (package_in old) (package_in new) → h.failures (medium_in (file_in (package_in old))) ≤ h.failures (medium_in (file_in (package_in new)))
+        → IsJustifiedBySectors (allocator_of (mini_of (file_in (package_in old)))) (allocator_of (mini_of (file_in (package_in new)))) e → (start : SessionState) → SessionIsAt old start → start.sound ≡ true
+        → (end : SessionState) × CommandStep (session_case_table old) start asked.commit (told.refused e) end × IsAt (package_in new) end × (end.base ≡ start.base) × (end.sound ≡ start.sound)
+    refused_goes e commits counted cause start at sound =
+        let now = at.place.phase ∙ ap phase_of live in
+        let holds = at.place.held now in
+        ⊎_elim
+        (λ fault. undone_based (package_in old) (package_in new) start at.place live counted commits.seen.1 asked.commit e refl
+        (λ end last. fault_of refl_continues (package_in old) (package_in new) start end asked.commit e (λ _. refl) live at.place.failures last cause fault) commits.rests)
+        (λ long.
+        let kept = long.2.holds start.held holds in
+        kept_based (package_in old) (package_in new) start at.place live counted commits.seen.1 asked.commit e refl (inr (long.0, too_long refl_continues (package_in old) (package_in new) start at.place live asked.commit (λ is. is) long.1))
+        (package_live (package_in new) kept.file.live (medium_lives e commits long.0)) kept)
+        (commits.refused start.held holds (sym at.place.sound ∙ sound))
+
     -- so nothing was published
     pub unpublished : (r : Result (Unit {0}) Error) → PackageCommits (λ m. HasPublished g (device_of m)) r (package_in old) (package_in new)
         → OnErr r (phase_of (is_failed new) ≡ running → SurvivesCrash (session_case_table old) g (device_below old) (device_below new) [])
@@ -133,8 +158,7 @@ module _ {D : Type 0} {g : device.Ghosts D} {h : Ghosts (Staged D g)} where
         let now = at.place.phase ∙ ap phase_of live in
         let holds = at.place.held now in
         let went = ⊎_elim
-        (λ sound. undone_based (package_in old) (package_in new) start at.place live counted commits.seen.1 asked.commit e refl
-        (unsaved refl_continues (package_in old) (package_in new) start at.place live asked.commit refl (λ is. is) e cause (commits.refused start.held holds (sym at.place.sound ∙ sound))) commits.rests)
+        (λ sound. refused_goes e commits counted cause start at sound)
         (λ unsound. absurd (not_err (commits.unsound live (sym at.place.sound ∙ unsound)).0)) (by_sound start.sound) in
         ⊎_elim
         (λ broken. (

@@ -15,7 +15,7 @@ use Rattle.cfb_tree.specs.Names.{CaseTable}
 use Rattle.command_file.specs.Request.{Request, is_commit, is_roll_back}
 use Rattle.command_file.specs.Request as asked
 use Rattle.msi.specs.Changing.{failed_in}
-use Rattle.msi.specs.Committing.{HoldWhatWasHeld, BytesHoldPackage, PackageCommits}
+use Rattle.msi.specs.Committing.{HoldWhatWasHeld, BytesKeepPackage, PackageCommits}
 use Rattle.msi.specs.Opened.{file_in, sound_in, PackageHasContent}
 use Rattle.msi.specs.declared.package.Package.{Package}
 use Rattle.msi_spec.specs.Opening.{keeps_encoded_names}
@@ -123,7 +123,7 @@ module _ {D : Type 0} {g : device.Ghosts D} {h : Ghosts (Staged D g)}
     usable = ap keeps_encoded_names letters ∙ was.usable;
     bytes = was.bytes;
     published = published_yet counts_now rests_keeps rests_leaves (device_below old) (device_below new) was.bytes rests was.honest was.published;
-    found = λ fit. subst (λ l. BytesHoldPackage l was.bytes B) (sym letters) (was.found fit);
+    found = subst (λ l. BytesKeepPackage l was.bytes B) (sym letters) was.found;
   }
 
   module _ (refl_continues : (m : Staged D g) → h.continues m m) (rests : (a b : Staged D g) → h.continues a b → g.rests (device_of a) (device_of b)) (failed : (a b : Staged D g) → h.continues a b → h.failed a ≡ h.failed b) where
@@ -189,7 +189,7 @@ pub published_found : {F : Type 0} {g : Ghosts F} (has_published : F → List �
     → OnOk r ((P : PackageContent) → PackageHasContent old P → IsTrue (sound_in old) → (bytes : List ℕ) × has_published (medium_in (file_in new)) bytes × IsRecovered (file.file_case_table (file_in old)) bytes P)
 published_found has_published old new (Ok u) commits = λ P h sound.
     let done = commits.done P h sound in
-    (done.bytes, done.published, λ fit. subst (λ l. BytesHoldPackage l done.bytes P) commits.seen.0 (done.found fit))
+    (done.bytes, done.published, subst (λ l. BytesKeepPackage l done.bytes P) commits.seen.0 done.found)
 published_found has_published old new (Err e) commits = tt
 
 pub published_of : {F : Type 0} {g : Ghosts F} (has_published : F → List ℕ → Type 0) (old new : Package F g) (r : Result (Unit {0}) Error) → PackageCommits has_published r old new → (P : PackageContent) → PackageHasContent old P
@@ -200,4 +200,4 @@ published_of has_published old new (Err e) commits P h sound = tt
 -- what is left is what might have been left, or is found of the package that was held
 pub left_found : {F : Type 0} {g : Ghosts F} {Before : Type 0} (old : Package F g) (P : PackageContent) → PackageHasContent old P → IsTrue (sound_in old) → (given : Option (List ℕ))
     → Before ⊎ ((bytes : List ℕ) × (given ≡ Some bytes) × HoldWhatWasHeld old bytes) → Before ⊎ IsGiven (λ bytes. IsRecovered (file.file_case_table (file_in old)) bytes P) given
-left_found old P h sound given either = ⊎_elim (λ before. inl before) (λ new. inr (new.0, new.1, λ fit. new.2 P h sound fit)) either
+left_found old P h sound given either = ⊎_elim (λ before. inl before) (λ new. inr (new.0, new.1, new.2 P h sound)) either

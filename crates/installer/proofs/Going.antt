@@ -13,7 +13,7 @@ use Rattle.cfb_medium.specs.declared.medium.ReadMedium.{Ghosts}
 use Rattle.cfb_mini.specs.Views.{allocator_of}
 use Rattle.cfb_chain_io.specs.ChainEffects.{KeepsFileInvariants}
 use Rattle.cfb_tree.specs.Names.{CaseTable}
-use Rattle.command_file.specs.Request.{Request, is_changing, is_codepage, is_commit, is_reading}
+use Rattle.command_file.specs.Request.{Request, is_changing, is_codepage, is_commit, is_reading, is_writing}
 use Rattle.command_file.specs.Request as asked
 use Rattle.msi.specs.Changing.{failed_in, KeepsHeld, PackageChanges}
 use Rattle.msi.specs.Opened.{file_in, sound_in, PackageHasContent}
@@ -21,7 +21,7 @@ use Rattle.msi.specs.declared.package.Package.{Package}
 use Rattle.msi_spec.specs.Package.{PackageContent}
 use Rattle.msi_stored.specs.Changing.{PackageRule}
 use Rattle.installer.proofs.Faults.{fault_of}
-use Rattle.installer.specs.SessionStates.{SessionState, CommandStep, IsTooMuch, IsUndone, StepAs, base_after, failed, running, fails, stays, steps, takes_room}
+use Rattle.installer.specs.SessionStates.{SessionState, CommandStep, IsSessionFault, IsTooMuch, IsUndone, StepAs, base_after, failed, running, fails, stays, steps, takes_room}
 use Rattle.installer.specs.Reply.{Reply}
 use Rattle.installer.specs.Reply as told
 use Rattle.installer.specs.Sessions.{phase_of, IsAt}
@@ -54,7 +54,7 @@ pub base_other : (old : SessionState) (request : Request) (reply : Reply) → is
 base_other old asked.commit reply other = absurd (cc)
 base_other old request reply other = refl
 
-no_commit : (request : Request) → is_changing request ≡ true → is_commit request ≡ false
+pub no_commit : (request : Request) → is_changing request ≡ true → is_commit request ≡ false
 no_commit asked.commit is = absurd (cc)
 no_commit request is = refl
 
@@ -76,7 +76,23 @@ unread request is = refl
 pub unchanging : (request : Request) → is_reading request ≡ true → is_changing request ≡ false
 unchanging request is = rw is refl
 
-step_refused : (letters : CaseTable) (P : PackageContent) (request : Request) → is_changing request ≡ true → StepAs false letters P request (told.refused InvalidData) P
+-- what reads nothing doesn't ask for the code page
+pub unread_codepage : (request : Request) → is_reading request ≡ false → is_codepage request ≡ false
+unread_codepage asked.codepage is = absurd (cc)
+unread_codepage request is = refl
+
+-- neither what changes nor what reads writes
+pub unwritten : (request : Request) → is_changing request ≡ true → is_writing request ≡ false
+unwritten asked.flush is = absurd (cc)
+unwritten asked.commit is = absurd (cc)
+unwritten request is = refl
+
+pub unwritten_read : (request : Request) → is_reading request ≡ true → is_writing request ≡ false
+unwritten_read asked.flush is = absurd (cc)
+unwritten_read asked.commit is = absurd (cc)
+unwritten_read request is = refl
+
+pub step_refused : (letters : CaseTable) (P : PackageContent) (request : Request) → is_changing request ≡ true → StepAs false letters P request (told.refused InvalidData) P
 step_refused letters P request changing = rw changing (refl, refl)
 
 -- an answer is the step's, or bytes are too many
@@ -134,8 +150,13 @@ module _ {F : Type 0} {g : Ghosts F} (old new : Package F g) (start : SessionSta
   pub held_at : (P : PackageContent) → failed_in new ≡ false → PackageHasContent new P → IsAt new (with_held P)
   held_at P now held = record { phase = was ∙ ap phase_of (sym now); held = λ _. held; failures = refl; sound = at.sound ∙ sym sound }
 
-  -- it came to nothing: nothing is changed, or it has failed; what leads back stays
-  pub undone_based : (request : Request) (e : Error) → is_reading request ≡ false → ((end : SessionState) → end.failures ≡ g.failures (medium_in (file_in new)) → IsUndone start request e end)
+  -- it came to nothing, and nothing is changed; what leads back stays
+  pub kept_based : (request : Request) (e : Error) → is_codepage request ≡ false → IsUndone start request e (with_held start.held) → failed_in new ≡ false → PackageHasContent new start.held
+      → (end : SessionState) × CommandStep letters start request (told.refused e) end × IsAt new end × (end.base ≡ start.base) × (end.sound ≡ start.sound)
+  kept_based request e other is now held = (with_held start.held, stays e was refl is other refl more, held_at start.held now held, refl, refl)
+
+  -- there was a fault: nothing is changed, or it has failed; what leads back stays
+  pub undone_based : (request : Request) (e : Error) → is_reading request ≡ false → ((end : SessionState) → end.failures ≡ g.failures (medium_in (file_in new)) → IsSessionFault start request e end)
       → (failed_in new ≡ true) ⊎ KeepsHeld old new → (end : SessionState) × CommandStep letters start request (told.refused e) end × IsAt new end × (end.base ≡ start.base) × (end.sound ≡ start.sound)
   undone_based request e unread is kept = ⊎_elim
       (λ now. (
@@ -147,17 +168,13 @@ module _ {F : Type 0} {g : Ghosts F} (old new : Package F g) (start : SessionSta
       ))
       (λ now. (
         with_held start.held,
-        stays e was refl (is (with_held start.held) refl) (not_codepage request unread) refl more,
+        stays e was refl (inl (is (with_held start.held) refl)) (unread_codepage request unread) refl more,
         held_at start.held now (⊎_elim (λ failed. absurd (both_ways (failed_in new) now failed)) (λ keeps. keeps.holds start.held held_here) kept),
         refl,
         refl,
       )) (by_sound (failed_in new))
-    where
-      not_codepage : (request : Request) → is_reading request ≡ false → is_codepage request ≡ false
-      not_codepage asked.codepage is = absurd (cc)
-      not_codepage request is = refl
 
-  pub undone : (request : Request) (e : Error) → is_reading request ≡ false → ((end : SessionState) → end.failures ≡ g.failures (medium_in (file_in new)) → IsUndone start request e end)
+  pub undone : (request : Request) (e : Error) → is_reading request ≡ false → ((end : SessionState) → end.failures ≡ g.failures (medium_in (file_in new)) → IsSessionFault start request e end)
       → (failed_in new ≡ true) ⊎ KeepsHeld old new → Leads new letters start request (told.refused e)
   undone request e unread is kept = (let went = undone_based request e unread is kept in (went.0, went.1, went.2))
 
@@ -185,7 +202,7 @@ module _ {F : Type 0} {g : Ghosts F} (refl_continues : (m : F) → g.continues m
   pub faulted : (request : Request) (e : Error) → is_reading request ≡ false → (e ≡ Full → takes_room request ≡ true) → IsJustifiedBySectors (allocator_of (mini_of (file_in old))) (allocator_of (mini_of (file_in new))) e → IsFaultOrFull e
       → (failed_in new ≡ true) ⊎ KeepsHeld old new → Leads new (file_case_table (file_in old)) start request (told.refused e)
   faulted request e unread room cause fault kept =
-      undone old new start at live moves.counted moves.sound request e unread (λ end last. inl (fault_of refl_continues old new start end request e room live at.failures last cause fault)) kept
+      undone old new start at live moves.counted moves.sound request e unread (λ end last. fault_of refl_continues old new start end request e room live at.failures last cause fault) kept
 
   -- the package that was held is held, and nothing has failed
   kept_live : KeepsHeld old new → (failed_in new ≡ false) × PackageHasContent new start.held
@@ -208,7 +225,7 @@ module _ {F : Type 0} {g : Ghosts F} (refl_continues : (m : F) → g.continues m
     refused_stays : (e : Error) → start.sound ≡ true → KeepsHeld old new → StepOr (file_case_table (file_in old)) start.held request (Err e) start.held → Leads new (file_case_table (file_in old)) start request (told.refused e)
     refused_stays e sound keeps is = ⊎_elim
         (λ own. goes_told request (told.refused e) (no_commit request changing) keeps (step_of_sound (file_case_table (file_in old)) start.sound start.held start.held request (told.refused e) sound own))
-        (λ much. undone old new start at live moves.counted moves.sound request e (unread request changing) (λ end last. inr (err_is {X = Unit {0}} e InvalidInput much.0, much.1)) (inr keeps)) is
+        (λ much. goes_lost request e keeps (unread_codepage request (unread request changing)) (inr (err_is {X = Unit {0}} e InvalidInput much.0, much.1))) is
 
     -- a change of a sound package
     goes_sound : (result : Result (Unit {0}) Error) → PackageChanges rule result old new → IfErr result (IsJustifiedBySectors (allocator_of (mini_of (file_in old))) (allocator_of (mini_of (file_in new))))

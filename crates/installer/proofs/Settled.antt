@@ -10,7 +10,6 @@ use Rattle.cfb_tree.proofs.OneContent.{Some_same}
 use Rattle.command_file.specs.Request.{Request, is_changing, is_roll_back}
 use Rattle.command_file.specs.Request as command
 use Rattle.msi_changes.specs.Changes.{deleted, inserted, updated}
-use Rattle.msi.specs.Changing.{PackageCanBeWritten}
 use Rattle.msi_spec.specs.Calls.{change, created, dropped, found_table, may_insert, may_update, new_table, own_columns, rows_beside, rows_put, selected_in, table_put, Change, EndsRefusedOrBy, PackagePuts}
 use Rattle.msi_spec.specs.Package.{at_name, stream_name, PackageContent}
 use Rattle.msi_spec.specs.Streams.{may_name, plain_stream_name, stream_read, stream_removed, stream_written}
@@ -20,11 +19,11 @@ use Rattle.msi_tables.specs.Table.{IsStoredByKeys}
 use Rattle.msi_texts.specs.Results.{unless_not, ◌>>=◌}
 use Rattle.installer.proofs.Based.{base_of}
 use Rattle.installer.proofs.Once.{step_once}
-use Rattle.installer.specs.SessionStates.{base_after, over, fails, broken, unchanged, baseless, led, marks_as, marks_of, refuses, rolls, stays, steps, SessionState, CommandStep, SessionRollsBack, IsTooMuch, KeepsBase, IsUndone, BegunCommit, Phase, SessionRuns, StepAs}
+use Rattle.installer.specs.SessionStates.{base_after, over, fails, broken, unchanged, baseless, led, refuses, rolls, stays, steps, SessionState, CommandStep, SessionRollsBack, IsTooMuch, KeepsBase, IsUndone, BegunCommit, SessionRuns, StepAs}
 use Rattle.installer.specs.Reply.{Reply}
 use Rattle.installer.specs.Reply as told
 use Rattle.installer.specs.Step.{PackageBecomes, Reads, PackageStep}
-use Rattle.installer.specs.Undisturbed.{AreByRule, AreFit, GoOn, IsBasedOn, is_by_rule, is_outside, is_sized}
+use Rattle.installer.specs.Undisturbed.{AreByRule, GoOn, IsBasedOn, is_by_rule, is_outside, is_sized}
 
 -- ---- replies that a rule gave
 
@@ -59,7 +58,7 @@ went : (letters : CaseTable) (old new : SessionState) (request : Request) (reply
     → StepAs old.sound letters old.held request reply new.held × (new.sound ≡ old.sound)
 went letters old new request reply (steps run step base yet sound counted) by = (step, sound)
 went letters old new request reply (stays e run is undone other same counted) by = absurd (not_by_rule request reply e is (outside old new request e undone) by)
-went letters old new request reply (fails e run is undone unread same base counted) by = absurd (not_by_rule request reply e is (outside old new request e undone) by)
+went letters old new request reply (fails e run is fault unread same base counted) by = absurd (not_by_rule request reply e is (outside old new request e (inl fault)) by)
 went letters old new request reply (refuses run other is same) by = absurd (not_by_rule request reply _ is refl by)
 went letters old new request reply (rolls back goes) by = absurd (not_back request reply back by)
 
@@ -180,47 +179,38 @@ runs_keep letters start end (q ∷ qs) [] marks on runs = absurd runs
 -- ---- roll backs
 
 back_keeps : (old new : SessionState) (r : Reply) → IsBasedOn old.held.storages old → SessionRollsBack old r new → new.held.storages ≡ old.held.storages
-back_keeps old new r on (led sound is some held same counted) =
-    let b = base_of old.base some in
-    let k = on sound b.0 b.1 in
-    ap (λ (p : PackageContent). p.storages) (held b.0 b.1 k.0) ∙ k.1
+back_keeps old new r on (led sound is some held stored same counted) = let b = base_of old.base some in stored b.0 b.1 ∙ on sound b.0 b.1
 back_keeps old new r on (unchanged sound run is same counted) = ap (λ (c : SessionState). c.held.storages) same
 back_keeps old new r on (baseless sound none run is same counted) = ap (λ (c : SessionState). c.held.storages) same
 back_keeps old new r on (over none run is same) = ap (λ (c : SessionState). c.held.storages) same
 back_keeps old new r on (broken e sound some is fit same counted) = ⊎_elim (λ one. ap (λ (c : SessionState). c.held.storages) one) (λ one. ap (λ (c : SessionState). c.held.storages) one) same
 
 back_based : (old new : SessionState) (r : Reply) → SessionRollsBack old r new → (new.base ≡ old.base) × (new.sound ≡ old.sound)
-back_based old new r (led sound is some held same counted) = (ap (λ (c : SessionState). c.base) same, ap (λ (c : SessionState). c.sound) same)
+back_based old new r (led sound is some held stored same counted) = (ap (λ (c : SessionState). c.base) same, ap (λ (c : SessionState). c.sound) same)
 back_based old new r (unchanged sound run is same counted) = (ap (λ (c : SessionState). c.base) same, ap (λ (c : SessionState). c.sound) same)
 back_based old new r (baseless sound none run is same counted) = (ap (λ (c : SessionState). c.base) same, ap (λ (c : SessionState). c.sound) same)
 back_based old new r (over none run is same) = (ap (λ (c : SessionState). c.base) same, ap (λ (c : SessionState). c.sound) same)
 back_based old new r (broken e sound some is fit same counted) = ⊎_elim
     (λ one. (ap (λ (c : SessionState). c.base) one, ap (λ (c : SessionState). c.sound) one)) (λ one. (ap (λ (c : SessionState). c.base) one, ap (λ (c : SessionState). c.sound) one)) same
 
-fit_first : (first second : List BegunCommit) → AreFit (first ++ second) → AreFit first × AreFit second
-fit_first [] second are = (tt, are)
-fit_first (m ∷ first) second are = let rest = fit_first first second are.1 in ((are.0, rest.0), rest.1)
-
 -- the base of a course after a request is that of before, or what was committed
-after_based : (old : SessionState) (q : Request) (r : Reply) (left : Phase) → old.sound ≡ true → AreFit (marks_of old q r left) → (B : PackageContent) → base_after old q r ≡ Some B
-    → (old.base ≡ Some B) ⊎ (PackageCanBeWritten B × (B.storages ≡ old.held.storages))
-after_based old command.commit told.done left sound fits B is =
-    let one : AreFit (marks_as true old.held command.commit told.done left) = subst (λ b. AreFit (marks_as b old.held command.commit told.done left)) sound fits in
+after_based : (old : SessionState) (q : Request) (r : Reply) (B : PackageContent) → base_after old q r ≡ Some B → (old.base ≡ Some B) ⊎ (B.storages ≡ old.held.storages)
+after_based old command.commit told.done B is =
     let same : old.held ≡ B = Some_same is in
-    inr (subst (λ (P : PackageContent). PackageCanBeWritten P) same one.0, ap (λ (p : PackageContent). p.storages) (sym same))
-after_based old q r left sound fits B is = inl is
+    inr (ap (λ (p : PackageContent). p.storages) (sym same))
+after_based old q r B is = inl is
 
 undone_based : (old new : SessionState) (q : Request) (e : Error) → KeepsBase old q e new → (B : PackageContent) → new.base ≡ Some B → {Holds : Type 0} → (old.base ≡ Some B → Holds) → Holds
 undone_based old new q e (inl kept) B b each = each (sym kept ∙ b)
 undone_based old new q e (inr cut) B b each = let never : None ≡ Some B = sym cut.2 ∙ b in absurd (cc never)
 
-goes_based : (letters : CaseTable) (old new : SessionState) (q : Request) (r : Reply) → AreFit (marks_of old q r new.phase) → IsBasedOn old.held.storages old → CommandStep letters old q r new → IsBasedOn old.held.storages new
-goes_based letters old new q r fits on (steps run step base yet sound counted) = λ is B b. ⊎_elim
-    (λ before. on (sym sound ∙ is) B before) (λ now. now) (after_based old q r new.phase (sym sound ∙ is) fits B (sym base ∙ b))
-goes_based letters old new q r fits on (stays e run is undone page same counted) = λ s B b. on (sym (ap (λ (c : SessionState). c.sound) same) ∙ s) B (sym (ap (λ (c : SessionState). c.base) same) ∙ b)
-goes_based letters old new q r fits on (fails e run is undone unread same base counted) = λ s B b. undone_based old new q e base B b (on (sym (ap (λ (c : SessionState). c.sound) same) ∙ s) B)
-goes_based letters old new q r fits on (refuses run unrolled is same) = λ s B b. on (sym (ap (λ (c : SessionState). c.sound) same) ∙ s) B (sym (ap (λ (c : SessionState). c.base) same) ∙ b)
-goes_based letters old new q r fits on (rolls back goes) = let both = back_based old new r goes in λ s B b. on (sym both.1 ∙ s) B (sym both.0 ∙ b)
+goes_based : (letters : CaseTable) (old new : SessionState) (q : Request) (r : Reply) → IsBasedOn old.held.storages old → CommandStep letters old q r new → IsBasedOn old.held.storages new
+goes_based letters old new q r on (steps run step base yet sound counted) = λ is B b. ⊎_elim
+    (λ before. on (sym sound ∙ is) B before) (λ now. now) (after_based old q r B (sym base ∙ b))
+goes_based letters old new q r on (stays e run is undone page same counted) = λ s B b. on (sym (ap (λ (c : SessionState). c.sound) same) ∙ s) B (sym (ap (λ (c : SessionState). c.base) same) ∙ b)
+goes_based letters old new q r on (fails e run is undone unread same base counted) = λ s B b. undone_based old new q e base B b (on (sym (ap (λ (c : SessionState). c.sound) same) ∙ s) B)
+goes_based letters old new q r on (refuses run unrolled is same) = λ s B b. on (sym (ap (λ (c : SessionState). c.sound) same) ∙ s) B (sym (ap (λ (c : SessionState). c.base) same) ∙ b)
+goes_based letters old new q r on (rolls back goes) = let both = back_based old new r goes in λ s B b. on (sym both.1 ∙ s) B (sym both.0 ∙ b)
 
 goes_storing : (letters : CaseTable) (old new : SessionState) (q : Request) (r : Reply) → IsBasedOn old.held.storages old → CommandStep letters old q r new → new.held.storages ≡ old.held.storages
 goes_storing letters old new q r on goes = by (is_roll_back q) refl goes
@@ -233,13 +223,12 @@ goes_storing letters old new q r on goes = by (is_roll_back q) refl goes
     by true is (fails e run told undone unread same base counted) = ap (λ (c : SessionState). c.held.storages) same
     by true is (refuses run unrolled told same) = ap (λ (c : SessionState). c.held.storages) same
 
-pub runs_storing : (letters : CaseTable) (start end : SessionState) (requests : List Request) (replies : List Reply) (marks : List BegunCommit) → IsBasedOn start.held.storages start → AreFit marks
+pub runs_storing : (letters : CaseTable) (start end : SessionState) (requests : List Request) (replies : List Reply) (marks : List BegunCommit) → IsBasedOn start.held.storages start
     → SessionRuns letters start requests replies marks end → end.held.storages ≡ start.held.storages
-runs_storing letters start end [] [] marks on fits runs = ap (λ (c : SessionState). c.held.storages) runs.1
-runs_storing letters start end (q ∷ qs) (r ∷ rs) marks on fits runs =
-    let both = fit_first (marks_of start q r runs.0.phase) runs.1 (subst (λ ms. AreFit ms) runs.4 fits) in
+runs_storing letters start end [] [] marks on runs = ap (λ (c : SessionState). c.held.storages) runs.1
+runs_storing letters start end (q ∷ qs) (r ∷ rs) marks on runs =
     let same = goes_storing letters start runs.0 q r on runs.2 in
-    let next = subst (λ s. IsBasedOn s runs.0) (sym same) (goes_based letters start runs.0 q r both.0 on runs.2) in
-    runs_storing letters runs.0 end qs rs runs.1 next both.1 runs.3 ∙ same
-runs_storing letters start end [] (r ∷ rs) marks on fits runs = absurd runs
-runs_storing letters start end (q ∷ qs) [] marks on fits runs = absurd runs
+    let next = subst (λ s. IsBasedOn s runs.0) (sym same) (goes_based letters start runs.0 q r on runs.2) in
+    runs_storing letters runs.0 end qs rs runs.1 next runs.3 ∙ same
+runs_storing letters start end [] (r ∷ rs) marks on runs = absurd runs
+runs_storing letters start end (q ∷ qs) [] marks on runs = absurd runs

@@ -20,7 +20,7 @@ use Rattle.installer.proofs.Following.{kept_quiet, marks_other}
 use Rattle.installer.proofs.Going.{step_of_sound}
 use Rattle.installer.proofs.Running.{follow_one}
 use Rattle.installer.proofs.Stopping.{survives_then}
-use Rattle.installer.specs.Behaviour.{Behaves, BehavesOnce, Condition}
+use Rattle.installer.specs.Behaviour.{Behaves, BehavesOnce, Condition, is_answer_to}
 use Rattle.installer.specs.SessionStates.{base_after, over, failed, fails, broken, unchanged, baseless, led, marks_as, refuses, rolls, running, stays, steps, SessionState, CommandStep, SessionRollsBack, IsSessionFault, IsUndone, Phase, SessionRuns, StepAs}
 use Rattle.installer.specs.CommandRuns.{FollowAll, RunsCommand, ResumesFrom}
 use Rattle.installer.specs.Groups.{all_done, inserts_of}
@@ -36,9 +36,32 @@ never_both p a b = (let never : running ≡ failed = sym a ∙ b in cc never)
 
 -- ---- one insert with other rows
 
--- how it behaves doesn't hang on its rows
+-- what answers it doesn't hang on its rows
+same_kind : (name : List ℕ) (rows others : List (List Datum)) (reply : Reply) → is_answer_to (asked.insert name others) reply ≡ is_answer_to (asked.insert name rows) reply
+same_kind name rows others told.done = refl
+same_kind name rows others (told.names ns) = refl
+same_kind name rows others (told.rows ns rs) = refl
+same_kind name rows others (told.columns cs) = refl
+same_kind name rows others (told.bytes bs) = refl
+same_kind name rows others (told.answers b) = refl
+same_kind name rows others (told.summary ps) = refl
+same_kind name rows others (told.codepage page) = refl
+same_kind name rows others (told.refused e) = refl
+
+-- nor does how it behaves
 other_rows : (old new : Condition) (name : List ℕ) (rows others : List (List Datum)) (reply : Reply) → BehavesOnce old (asked.insert name rows) reply new → BehavesOnce old (asked.insert name others) reply new
-other_rows old new name rows others reply b = record { ended = b.ended; live = b.live; device = b.device; reading = b.reading; codepage = b.codepage; unsound = b.unsound; sound = b.sound; counted = b.counted }
+other_rows old new name rows others reply b = record {
+  kind = same_kind name rows others reply ∙ b.kind;
+  ended = b.ended;
+  live = b.live;
+  device = b.device;
+  reading = b.reading;
+  codepage = b.codepage;
+  unsound = b.unsound;
+  writing = b.writing;
+  sound = b.sound;
+  counted = b.counted;
+}
 
 -- ---- all done
 
@@ -70,12 +93,14 @@ behaves_done old new name all rows [] live sound once = (new, other_rows old new
 behaves_done old new name all rows (next ∷ more) live sound once = (
   old,
   record {
+    kind = refl;
     ended = λ is _. absurd (both_ways old.failed live is);
     live = λ _ is. cc is;
     device = λ is. absurd (cc is);
     reading = λ _. refl;
     codepage = λ _ _ e is. cc is;
     unsound = λ _ is. absurd (both_ways old.sound is sound);
+    writing = λ _ is. absurd (both_ways old.sound is sound);
     sound = refl;
     counted = omega arith;
   },
@@ -127,7 +152,7 @@ module _ (letters : CaseTable) (start : SessionState) (n : ℕ) (fewer : start.f
   base_alike request reply = refl
 
   back_before : (reply : Reply) (end : SessionState) → start.phase ≡ running → SessionRollsBack later reply end → SessionRollsBack start reply end
-  back_before reply end was (led sound is some held same counted) = led sound is some held same (omega (arith, counted, fewer))
+  back_before reply end was (led sound is some held stored same counted) = led sound is some held stored same (omega (arith, counted, fewer))
   back_before reply end was (unchanged sound phase is same counted) = unchanged sound was is same (omega (arith, counted, fewer))
   back_before reply end was (baseless sound none phase is same counted) = baseless sound none was is same (omega (arith, counted, fewer))
   back_before reply end was (over none phase is same) = absurd (never_both start.phase was phase)
@@ -137,7 +162,7 @@ module _ (letters : CaseTable) (start : SessionState) (n : ℕ) (fewer : start.f
   pub goes_before : (request : Request) (reply : Reply) (end : SessionState) → start.phase ≡ running → CommandStep letters later request reply end → CommandStep letters start request reply end
   goes_before request reply end was (steps phase step based after sound counted) = steps was step (based ∙ base_alike request reply) after sound (omega (arith, counted, fewer))
   goes_before request reply end was (stays e phase is undone page same counted) = stays e was is (undone_before request e end counted undone) page same (omega (arith, counted, fewer))
-  goes_before request reply end was (fails e phase is undone reads same base counted) = fails e was is (undone_before request e end counted undone) reads same base (omega (arith, counted, fewer))
+  goes_before request reply end was (fails e phase is fault reads same base counted) = fails e was is (fault_before request e end counted fault) reads same base (omega (arith, counted, fewer))
   goes_before request reply end was (refuses phase other is same) = absurd (never_both start.phase was phase)
   goes_before request reply end was (rolls back goes) = rolls back (back_before reply end was goes)
 
@@ -156,12 +181,14 @@ module _ {D : Type 0} {g : device.Ghosts D} {h : Ghosts (Staged D g)} where
 
   pub behaves_before : (old mid : SessionOver (Staged D g) h) → StandsStill old mid → (request : Request) (reply : Reply) (new : Condition) → BehavesOnce (condition_of mid) request reply new → BehavesOnce (condition_of old) request reply new
   behaves_before old mid s request reply new b = record {
+    kind = b.kind;
     ended = λ is _. absurd (both_ways (is_failed old) s.live is);
     live = λ _. b.live s.live_yet;
     device = λ is. rises (condition_of old).failures (condition_of mid).failures new.failures s.counted b.counted (b.device is);
     reading = λ is. b.reading is ∙ s.live_yet ∙ sym s.live;
     codepage = λ _. b.codepage s.live_yet;
     unsound = λ _ is. absurd (both_ways (is_sound old) is s.is_sound_then);
+    writing = λ _ is. absurd (both_ways (is_sound old) is s.is_sound_then);
     sound = b.sound ∙ s.sound;
     counted = (let one = s.counted in let two = b.counted in omega (arith, one, two));
   }

@@ -12,14 +12,13 @@ use Rattle.cfb_mini.specs.Views.{allocator_of}
 use Rattle.cfb_tree.specs.Names.{CaseTable}
 use Rattle.command_file.specs.Request.{Request}
 use Rattle.command_file.specs.Request as asked
-use Rattle.msi.specs.Changing.{failed_in, IsUnsaved, KeepsHeld, PackageWrites}
-use Rattle.msi.specs.Opened.{file_in, summary_in, PackageHasContent}
+use Rattle.msi.specs.Changing.{failed_in, KeepsHeld, PackageWrites}
+use Rattle.msi.specs.Opened.{file_in, pool_in, summary_in, PackageHasContent}
 use Rattle.msi.specs.declared.package.Package.{Package}
 use Rattle.msi_spec.specs.Package.{PackageContent}
 use Rattle.msi_streams.specs.Parts.{IsTooLong}
-use Rattle.installer.proofs.Faults.{fault_of}
-use Rattle.installer.proofs.Going.{by_sound, undone, goes_told, Leads, Moves}
-use Rattle.installer.specs.SessionStates.{SessionState, IsTooMuch, IsUndone, StepAs, takes_room}
+use Rattle.installer.proofs.Going.{by_sound, faulted, goes_lost, goes_told, Leads, Moves}
+use Rattle.installer.specs.SessionStates.{SessionState, IsTooMuch, StepAs}
 use Rattle.installer.specs.Reply as told
 use Rattle.installer.specs.Sessions.{phase_of, IsAt}
 use Rattle.installer.specs.Step.{told_of}
@@ -40,20 +39,14 @@ module _ {F : Type 0} {g : Ghosts F} (refl_continues : (m : F) → g.continues m
   abbrev holds : PackageHasContent old start.held
   holds = at.held (at.phase ∙ ap phase_of live)
 
-  -- what can't be saved is a fault, or too much
-  pub unsaved : (request : Request) (room : takes_room request ≡ true) (much : ((v : Version) × IsTooLong (stream_len_mask v) start.held.pool start.held.summary) → IsTooMuch start.held request) (e : Error)
-      → IsJustifiedBySectors (allocator_of (mini_of (file_in old))) (allocator_of (mini_of (file_in new))) e → IsUnsaved old new e
-      → (end : SessionState) → end.failures ≡ g.failures (medium_in (file_in new)) → IsUndone start request e end
-  unsaved request room much e cause is end last = ⊎_elim
-      (λ fault. inl (fault_of refl_continues old new start end request e (λ _. room) live at.failures last cause fault))
-      (λ long. inr (
-        long.0,
-        much (
-          version_of (allocator_of (mini_of (file_in old))),
-          subst (λ s. IsTooLong (stream_len_mask (version_of (allocator_of (mini_of (file_in old))))) start.held.pool s) holds.memory.summary
-              (subst (λ p. IsTooLong (stream_len_mask (version_of (allocator_of (mini_of (file_in old))))) p (summary_in old).props) holds.memory.pool long.1),
-        ),
-      )) is
+  -- what is too long for the file is too much
+  pub too_long : (request : Request) → (((v : Version) × IsTooLong (stream_len_mask v) start.held.pool start.held.summary) → IsTooMuch start.held request)
+      → IsTooLong (stream_len_mask (version_of (allocator_of (mini_of (file_in old))))) (pool_in old).pool (summary_in old).props → IsTooMuch start.held request
+  too_long request much long = much (
+    version_of (allocator_of (mini_of (file_in old))),
+    subst (λ s. IsTooLong (stream_len_mask (version_of (allocator_of (mini_of (file_in old))))) start.held.pool s) holds.memory.summary
+        (subst (λ p. IsTooLong (stream_len_mask (version_of (allocator_of (mini_of (file_in old))))) p (summary_in old).props) holds.memory.pool long),
+  )
 
   -- nothing was touched
   pub untouched : new ≡ old → KeepsHeld old new
@@ -65,5 +58,6 @@ module _ {F : Type 0} {g : Ghosts F} (refl_continues : (m : F) → g.continues m
       (⊎_elim (λ sound. record { holds = λ P h. writes.holds P h (sym at.sound ∙ sound) }) (λ unsound. untouched (writes.unsound live (sym at.sound ∙ unsound)).1) (by_sound start.sound))
       (step_flush (file_case_table (file_in old)) start.sound start.held)
   goes_writes (Err e) moves writes cause = ⊎_elim
-      (λ sound. undone old new start at live moves.counted moves.sound asked.flush e refl (unsaved asked.flush refl (λ is. is) e cause (writes.refused start.held holds (sym at.sound ∙ sound))) writes.rests)
+      (λ sound. ⊎_elim (λ fault. faulted refl_continues old new start at live moves asked.flush e refl (λ _. refl) cause fault writes.rests)
+      (λ long. goes_lost refl_continues old new start at live moves asked.flush e long.2 refl (inr (long.0, too_long asked.flush (λ is. is) long.1))) (writes.refused start.held holds (sym at.sound ∙ sound)))
       (λ unsound. absurd (not_err (writes.unsound live (sym at.sound ∙ unsound)).0)) (by_sound start.sound)

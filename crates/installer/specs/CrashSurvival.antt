@@ -2,16 +2,16 @@
 use Rattle.std.specs.Prelude.{◌≡◌, ◌⊎◌, ◌≤◌, ℕ, false, List, [], ◌∷◌, map, Option, Some, IsTrue}
 use Rattle.cfb_medium.specs.Crashes.{CrashLeavesOnly}
 use Rattle.cfb_tree.specs.Names.{CaseTable}
-use Rattle.msi.specs.Changing.{PackageCanBeWritten}
-use Rattle.msi.specs.Committing.{BytesHoldPackage}
+use Rattle.msi.specs.Committing.{BytesKeepPackage}
 use Rattle.msi_spec.specs.Package.{PackageContent}
 use Rattle.staged.specs.Steps.{GivenBy}
 use Rattle.staged.specs.declared.device.Device.{Ghosts}
 use Rattle.installer.specs.SessionStates.{BegunCommit}
 
--- what is found of a package that was committed: where it can be written as it is, bytes that hold it, sound
+-- what is found of a package that was committed: bytes in a sound container that hold all of it but its texts; and where it can be written as it is,
+-- bytes that hold it, sound
 abbrev pub IsRecovered : CaseTable → List ℕ → PackageContent → Type 0
-IsRecovered letters bytes P = PackageCanBeWritten P → BytesHoldPackage letters bytes P
+IsRecovered letters bytes P = BytesKeepPackage letters bytes P
 
 -- What may be found after these commits where one of the lists might be found before: bytes of a package whose commit was begun, or what
 -- might be found before that commit, unless it was answered Ok.

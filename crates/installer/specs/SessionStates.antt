@@ -75,15 +75,19 @@ IsUndone old request e new = IsSessionFault old request e new ⊎ ((e ≡ Invali
 abbrev pub KeepsBase : SessionState → Request → Error → SessionState → Type 0
 KeepsBase old request e new = (new.base ≡ old.base) ⊎ ((is_commit request ≡ true) × (e ≡ Device) × (new.base ≡ None))
 
+-- of the package to which a roll back leads
+abbrev pub OfBase : Option PackageContent → (PackageContent → Type 0) → Type 0
+OfBase base Holds = (B : PackageContent) → base ≡ Some B → Holds B
+
 -- where it can be written as it is
 abbrev pub OfFit : Option PackageContent → (PackageContent → Type 0) → Type 0
-OfFit base Holds = (B : PackageContent) → base ≡ Some B → PackageCanBeWritten B → Holds B
+OfFit base Holds = OfBase base (λ B. PackageCanBeWritten B → Holds B)
 
 -- A roll back of a sound package leads to the one that was committed last, or else opened, also after a fault; of another nothing was
 -- changed. It is refused where there is none; or a fault comes, by which the session may fail. (Where that package can't be written as it
--- is, what was published may be another, or refused.)
+-- is, what was published has its storages, and may else be another, or refused.)
 pub data SessionRollsBack (old : SessionState) (reply : Reply) (new : SessionState) : Type 0 where
-  led : old.sound ≡ true → reply ≡ told.done → is_some old.base ≡ true → OfFit old.base (λ B. new.held ≡ B)
+  led : old.sound ≡ true → reply ≡ told.done → is_some old.base ≡ true → OfFit old.base (λ B. new.held ≡ B) → OfBase old.base (λ B. new.held.storages ≡ B.storages)
       → new ≡ record old { held = new.held; failures = new.failures; phase = running } → old.failures ≤ new.failures → SessionRollsBack old reply new
   unchanged : old.sound ≡ false → old.phase ≡ running → reply ≡ told.done → new ≡ record old { failures = new.failures } → old.failures ≤ new.failures → SessionRollsBack old reply new
   baseless : old.sound ≡ true → old.base ≡ None → old.phase ≡ running → reply ≡ told.refused NotFound → new ≡ record old { failures = new.failures }
@@ -92,14 +96,14 @@ pub data SessionRollsBack (old : SessionState) (reply : Reply) (new : SessionSta
   broken : (e : Error) → old.sound ≡ true → is_some old.base ≡ true → reply ≡ told.refused e → OfFit old.base (λ B. IsSessionFault old command.roll_back e new)
       → (new ≡ record old { failures = new.failures }) ⊎ (new ≡ record old { failures = new.failures; phase = failed }) → old.failures ≤ new.failures → SessionRollsBack old reply new
 
--- One command: its step; or it is undone, and all stays; or by that the session fails, which no command that reads meets; a session that
--- has failed refuses; and a roll back goes back. No failure of the device is counted back.
+-- One command: its step; or it is undone, and all stays; or by a fault alone the session fails, which no command that reads meets; a session
+-- that has failed refuses; and a roll back goes back. No failure of the device is counted back.
 pub data CommandStep (letters : CaseTable) (old : SessionState) (request : Request) (reply : Reply) (new : SessionState) : Type 0 where
   steps : old.phase ≡ running → StepAs old.sound letters old.held request reply new.held → new.base ≡ base_after old request reply
       → new.phase ≡ running → new.sound ≡ old.sound → old.failures ≤ new.failures → CommandStep letters old request reply new
   stays : (e : Error) → old.phase ≡ running → reply ≡ told.refused e → IsUndone old request e new → is_codepage request ≡ false
       → new ≡ record old { failures = new.failures } → old.failures ≤ new.failures → CommandStep letters old request reply new
-  fails : (e : Error) → old.phase ≡ running → reply ≡ told.refused e → IsUndone old request e new → is_reading request ≡ false
+  fails : (e : Error) → old.phase ≡ running → reply ≡ told.refused e → IsSessionFault old request e new → is_reading request ≡ false
       → new ≡ record old { failures = new.failures; base = new.base; phase = failed } → KeepsBase old request e new → old.failures ≤ new.failures → CommandStep letters old request reply new
   refuses : old.phase ≡ failed → is_roll_back request ≡ false → reply ≡ told.refused Failed → new ≡ old → CommandStep letters old request reply new
   rolls : is_roll_back request ≡ true → SessionRollsBack old reply new → CommandStep letters old request reply new

@@ -47,6 +47,6 @@ abbrev pub AreFit : List BegunCommit → Type 0
 AreFit [] = Unit {0}
 AreFit (mark ∷ marks) = PackageCanBeWritten mark.held × AreFit marks
 
--- the package to which a roll back leads can be written as it is, and has these storages
+-- the package to which a roll back leads has these storages
 abbrev pub IsBasedOn : List Object → SessionState → Type 0
-IsBasedOn storages course = course.sound ≡ true → (B : PackageContent) → course.base ≡ Some B → PackageCanBeWritten B × (B.storages ≡ storages)
+IsBasedOn storages course = course.sound ≡ true → (B : PackageContent) → course.base ≡ Some B → B.storages ≡ storages

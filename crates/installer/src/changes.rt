@@ -36,6 +36,9 @@ impl<F: Medium> SessionOver<F> {
         ensures { RunsWithoutPublishing (asked.create_table name.now (columns_of columns.now))
             (reply_of result) self.old self.new }
     {
+        if !self.is_sound() {
+            return Answer::Refused(Error::InvalidData);
+        }
         match copies_of(self.alloc, columns) {
             Ok(columns) => answer_of(self.package.create_table(name, columns)),
             Err(error) => Answer::Refused(error),

@@ -13,7 +13,7 @@ use staged::Device;
 /// Committed packages survive. A device on which a recovery gives a list of whatever a crash may leave goes through calls of sessions and
 /// recoveries, which return or crash at any moment, also in a recovery of a recovery. Whatever a crash may then leave, a recovery
 /// gives bytes that hold the package of the last commit that was answered `Ok`, or of one that was begun since, sound, where it can be
-/// written as it is; or, where none was answered `Ok`, a list that it might have given at first. After a recovery that succeeded the home
+/// written as it is, and in a sound container all of it but its texts whatever these are; or, where none was answered `Ok`, a list that it might have given at first. After a recovery that succeeded the home
 /// file is such a list.
 pub fn committed_packages_survive<D: Device>()
     ensures survive { (letters : CaseTable) (first : D) (events : List (Event letters D.Device))

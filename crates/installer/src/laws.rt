@@ -4,7 +4,7 @@ ghost use Rattle.command_file.specs.Request.{Request};
 ghost use Rattle.installer.specs.SessionStates.{SessionState, BegunCommit, SessionRuns};
 ghost use Rattle.installer.specs.Reply.{Reply};
 ghost use Rattle.installer.specs.Step.{PackageStep};
-ghost use Rattle.installer.specs.Undisturbed.{AreByRule, AreFit, GoOn, IsBasedOn};
+ghost use Rattle.installer.specs.Undisturbed.{AreByRule, GoOn, IsBasedOn};
 ghost use Rattle.msi_spec.specs.Package.{PackageContent};
 ghost use Rattle.std.specs.Prelude.{◌≡◌, List};
 
@@ -21,8 +21,8 @@ pub fn runs_are_one()
         → AreByRule requests rs → AreByRule requests ss → (rs ≡ ss) × (c.held ≡ d.held) }
 {}
 
-/// No command changes the storages of a package, with all that lies in them: after a run they are what they were, also where it was rolled
-/// back, if what was opened and what was committed can be written as it is.
+/// No command changes the storages of a package, with all that lies in them, whatever its texts: after a run they are what they were, also
+/// where it was rolled back, if those of the package to which a roll back led at first were so.
 pub fn storages_stay()
     ensures on { (letters : CaseTable) (start end : SessionState) (requests : List Request)
         (replies : List Reply) (marks : List BegunCommit)
@@ -30,7 +30,7 @@ pub fn storages_stay()
         → end.held.storages ≡ start.held.storages }
     ensures back { (letters : CaseTable) (start end : SessionState) (requests : List Request)
         (replies : List Reply) (marks : List BegunCommit)
-        → IsBasedOn start.held.storages start → AreFit marks
+        → IsBasedOn start.held.storages start
         → SessionRuns letters start requests replies marks end
         → end.held.storages ≡ start.held.storages }
 {}

@@ -241,7 +241,7 @@ impl<D: Device> SessionOver<Staged<D>> {
     }
 
     /// Publishes the package: after `Ok` the log is closed, and whatever a crash leaves, a recovery gives bytes that hold it, where it can
-    /// be written as it is; of a package that isn't sound nothing is written. `Failed` where the session has failed before; else as
+    /// be written as it is, and else all of it but its texts; of a package that isn't sound nothing is written. `Failed` where the session has failed before; else as
     /// `Package::commit` is refused: then either all is as it was and nothing was published, or the session has failed.
     pub fn commit(&mut self) -> Result<(), Error>
         ensures follows { RunsCommand asked.commit (told_of result) self.old self.new }

@@ -16,8 +16,8 @@ use Rattle.installer.specs.SessionStates.{BegunCommit}
 use Rattle.installer.specs.Refusals.{IsFreshFault}
 use Rattle.installer.specs.CrashSurvival.{gives, given_since, IsRecovered, IsGiven, SurvivesCrash}
 use Rattle.installer_runs.specs.Copying.{CopiesOn, IsPackageCopied, IsCopyRefusal, IsUncopied, CopySurvivesCrash}
-use Rattle.msi.specs.Changing.{failed_in, PackageCanBeWritten}
-use Rattle.msi.specs.Committing.{BytesHoldPackage}
+use Rattle.msi.specs.Changing.{failed_in}
+use Rattle.msi.specs.Committing.{BytesKeepPackage}
 use Rattle.msi.specs.Copying.{PackageCopies}
 use Rattle.msi.specs.Opened.{PackageHasContent, file_in, sound_in}
 use Rattle.msi.specs.declared.package.Package.{Package}
@@ -76,8 +76,8 @@ module _ {D : Type 0} (g : Ghosts D) (letters : CaseTable) (counts_now : (d : D)
 module _ {F : Type 0} {k : medium.Ghosts F} (source : Package F k) {D : Type 0} (g : Ghosts D) where
   -- what was published is the copy
   pub copied_is : (mid new : Staged D g) (result : Result (Unit {0}) Error) → OnOk result (PublishesBytes mid new)
-      → ((P : PackageContent) → PackageHasContent source P → IsTrue (sound_in source) → PackageCanBeWritten P → BytesHoldPackage (file_case_table (file_in source)) (staged_bytes mid) P) → OnOk result (IsPackageCopied source g (device_of new))
-  copied_is mid new (Ok u) published holds = λ P held sound fit. (staged_bytes mid, published, holds P held sound fit)
+      → ((P : PackageContent) → PackageHasContent source P → IsTrue (sound_in source) → BytesKeepPackage (file_case_table (file_in source)) (staged_bytes mid) P) → OnOk result (IsPackageCopied source g (device_of new))
+  copied_is mid new (Ok u) published holds = λ P held sound. (staged_bytes mid, published, holds P held sound)
   copied_is mid new (Err e) published holds = tt
 
   -- over a home file that was empty

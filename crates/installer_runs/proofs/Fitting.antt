@@ -114,12 +114,14 @@ module _ {D : Type 0} {g : Ghosts D} {h : medium.Ghosts (Staged D g)} where
     behaves = (
       condition_of it,
       record {
+        kind = refl;
         ended = λ failed _. absurd (both_ways (is_failed it) keeps.0 failed);
         live = λ _ is. absurd (cc is);
         device = λ is. absurd (cc is);
         reading = λ is. absurd (cc is);
         codepage = λ _ is. absurd (cc is);
         unsound = λ _ _ is. absurd (cc is);
+        writing = λ _ unsound. absurd (both_ways (is_sound it) unsound keeps.1);
         sound = refl;
         counted = omega arith;
       },

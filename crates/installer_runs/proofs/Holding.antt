@@ -55,7 +55,7 @@ may_hold : (letters : CaseTable) (marks : List BegunCommit) (lists held : List �
 may_hold letters [] lists held within fit bytes is = within bytes is
 may_hold letters (m ∷ marks) lists held within fit bytes is =
     may_hold letters marks (λ b. IsRecovered letters b m.held ⊎ ((m.done ≡ false) × lists b)) (λ b. BytesHoldPackage letters b m.held ⊎ ((m.done ≡ false) × held b))
-    (λ b either. ⊎_elim (λ found. inl (found fit.0)) (λ before. inr (before.0, within b before.1)) either) fit.1 bytes is
+    (λ b either. ⊎_elim (λ found. inl (found.1 fit.0)) (λ before. inr (before.0, within b before.1)) either) fit.1 bytes is
 
 -- what a recovery gives then
 pub held_then : {D : Type 0} (g : Ghosts D) (letters : CaseTable) (old new : D) (marks : List BegunCommit) → AreFit marks → SurvivesCrash letters g old new marks

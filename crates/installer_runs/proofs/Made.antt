@@ -51,7 +51,7 @@ commit_undone letters start end e run sound (steps was step committed after same
     let done = subst (λ (b : Bool). StepAs b letters start.held asked.commit (told.refused e) end.held) sound step in
     let never : told.refused e ≡ told.done = done.1 in absurd (cc)
 commit_undone letters start end e run sound (stays f was is undone page same counted) = undone_as start end e f is undone
-commit_undone letters start end e run sound (fails f was is undone read same base counted) = undone_as start end e f is undone
+commit_undone letters start end e run sound (fails f was is fault read same base counted) = undone_as start end e f is (inl fault)
 commit_undone letters start end e run sound (refuses was own is same) = (let never : running ≡ failed = sym run ∙ was in absurd (cc))
 commit_undone letters start end e run sound (rolls back goes) = absurd (cc back)
 
@@ -68,7 +68,7 @@ module _ {D : Type 0} {g : Ghosts D} {h : medium.Ghosts (Staged D g)} (letters :
             is_new = is_new;
             bytes = own.0;
             published = subst (λ (d : D). HasPublished g d own.0) (sym leads.given) own.1;
-            found = subst (λ (l : CaseTable). BytesHoldPackage l own.0 P) compared (own.2 fit);
+            found = subst (λ (l : CaseTable). BytesHoldPackage l own.0 P) compared (own.2.1 fit);
           }
       on (Err e) published = tt
 

@@ -10,8 +10,7 @@ use Rattle.cfb_mini.specs.Views.{allocator_of}
 use Rattle.installer.specs.SessionStates.{BegunCommit}
 use Rattle.installer.specs.Refusals.{IsFreshFault, IsMalformed}
 use Rattle.installer.specs.CrashSurvival.{SurvivesCrash}
-use Rattle.msi.specs.Changing.{PackageCanBeWritten}
-use Rattle.msi.specs.Committing.{BytesHoldPackage}
+use Rattle.msi.specs.Committing.{BytesKeepPackage}
 use Rattle.msi.specs.Opened.{PackageHasContent, file_in, pool_in, sound_in, summary_in}
 use Rattle.msi.specs.declared.package.Package.{Package}
 use Rattle.msi_spec.specs.Package.{PackageContent}
@@ -33,9 +32,10 @@ pub record IsCopyRefusal {F : Type 0} {k : medium.Ghosts F} (before after : Pack
   pub cause : IsJustifiedBySectors (allocator_of (mini_of (file_in before))) (allocator_of (mini_of (file_in after))) e ⊎ IsFreshFault g old new e
 
 module _ {F : Type 0} {k : medium.Ghosts F} (source : Package F k) {D : Type 0} (g : Ghosts D) where
-  -- bytes were published that hold the source's package, sound, where it can be written as it is
+  -- bytes were published that hold all of the source's package but its texts, whatever these are; and the package, sound, where it can be written as
+  -- it is
   abbrev pub IsPackageCopied : D → Type 0
-  IsPackageCopied new = (P : PackageContent) → PackageHasContent source P → IsTrue (sound_in source) → PackageCanBeWritten P → (bytes : List ℕ) × HasPublished g new bytes × BytesHoldPackage (file_case_table (file_in source)) bytes P
+  IsPackageCopied new = (P : PackageContent) → PackageHasContent source P → IsTrue (sound_in source) → (bytes : List ℕ) × HasPublished g new bytes × BytesKeepPackage (file_case_table (file_in source)) bytes P
 
   -- A PACKAGE WAS COPIED: the home file was empty once recovered, and now has the package of the source
   pub record CopiesOn (old new : D) : Type 0 where

@@ -19,7 +19,7 @@ use staged::{Device, Staged};
 use std::alloc::Global;
 
 /// Recovers, commits a copy of a sound package to an empty home file, and gives the device back. After `Ok` the home file has bytes that
-/// hold the package, sound, where its texts fit their page, and the log is closed. Whatever is answered, a crash at any moment leaves what
+/// hold the package, sound, where its texts fit their page, and else all of it but its texts; and the log is closed. Whatever is answered, a crash at any moment leaves what
 /// one might have left before, or the copy; and where the home file, once recovered, isn't empty, nothing that a recovery gives is
 /// changed. `AlreadyExists` where the home file isn't empty, `InvalidData` for a malformed log. A package that isn't sound is
 /// never copied, and then nothing that a recovery gives is changed: `InvalidData`, or an earlier refusal;

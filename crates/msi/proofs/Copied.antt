@@ -15,10 +15,12 @@ use Rattle.cfb_tree.specs.Names.{CaseTable}
 use Rattle.cfb_tree.specs.Tree.{Tree}
 use Rattle.msi_spec.specs.Opening.{keeps_encoded_names}
 use Rattle.msi_spec.specs.Package.{PackageContent}
+use Rattle.msi_spec.specs.Split.{TreeStoresRest}
 use Rattle.msi.proofs.Changed.{DifferByFile}
 use Rattle.msi.proofs.Flushed.{keeps_flushed, written_yet}
 use Rattle.msi.proofs.SavedSound.{PacksSound}
 use Rattle.msi.specs.Changing.{PackageIsWritten, PackageWrites, failed_in}
+use Rattle.msi.specs.Committing.{BytesHoldRest}
 use Rattle.msi.specs.Copying.{HoldsPackageCopy, PackageCopies}
 use Rattle.msi.specs.Opened.{file_in, pool_in, sound_in}
 use Rattle.msi.specs.declared.package.Package.{Package}
@@ -42,12 +44,18 @@ copy_holds version letters bytes P tree usable copy p = record {
   };
 }
 
+-- and one of a file that stores a package holds all of it but its texts
+copy_rest : (version : Version) (letters : CaseTable) (bytes : List ℕ) (P : PackageContent) (tree : Tree) → keeps_encoded_names letters ≡ true → HoldsCopy version letters bytes tree → TreeStoresRest letters tree P → BytesHoldRest letters bytes P
+copy_rest version letters bytes P tree usable copy stores =
+    record { usable = usable; container = (copy.tight.layout, tree, copy.tight.sound); tree = tree; means = (copy.tight.layout, copy.tight.sound.means); stores = stores }
+
 module _ {F : Type 0} {g : Ghosts F} (honest : Type 0) (bytes : List ℕ) where
   pub failed_copies : (it : Package F g) → failed_in it ≡ true → PackageCopies honest bytes (Err Failed) it it
   failed_copies it is = record {
     failed = λ yes. (refl, refl);
     unsound = λ no wrong. let never : true ≡ false = sym is ∙ no in absurd (cc);
     holds = tt;
+    beside = tt;
     done = tt;
     refused = λ P h sound. inl (inl tt);
     rests = inr (record { holds = λ P h. h });
@@ -59,6 +67,7 @@ module _ {F : Type 0} {g : Ghosts F} (honest : Type 0) (bytes : List ℕ) where
     failed = λ yes. let never : true ≡ false = sym yes ∙ live in absurd (cc);
     unsound = λ no is. (refl, refl);
     holds = tt;
+    beside = tt;
     done = tt;
     refused = λ P h sound. let never : true ≡ false = sym sound ∙ wrong in absurd (cc);
     rests = inr (record { holds = λ P h. h });
@@ -71,6 +80,7 @@ module _ {F : Type 0} {g : Ghosts F} (honest : Type 0) (bytes : List ℕ) where
       failed = λ yes. let never : true ≡ false = sym yes ∙ live in absurd (cc);
       unsound = λ no wrong. let never : true ≡ false = sym sound ∙ wrong in absurd (cc);
       holds = tt;
+      beside = tt;
       done = tt;
       refused = s.refused;
       rests = s.rests;
@@ -94,6 +104,10 @@ module _ {F : Type 0} {g : Ghosts F} (honest : Type 0) (bytes : List ℕ) where
         failed = λ yes. let never : true ≡ false = sym yes ∙ live in absurd (cc);
         unsound = λ no wrong. let never : true ≡ false = sym sound ∙ wrong in absurd (cc);
         holds = λ P h is. (keeps_flushed mid new d same rests (s.seen.1 ∙ sound)).holds P (s.holds P h is);
+        beside = λ P h is so.
+            let after = s.holds P h is in
+            subst (λ l. BytesHoldRest l bytes P) s.seen.0
+            (copy_rest (version_of (allocator_of (mini_of (file_in mid)))) (file_case_table (file_in mid)) bytes P after.tree after.usable (copies so after.tree (after.sound (s.seen.1 ∙ is)).0).holds after.stores);
         done = λ P h is fit.
             let saved = s.done P h is fit in
             (written_yet mid new d same rests (s.seen.1 ∙ sound) P saved, copied version copies P saved);
@@ -105,6 +119,7 @@ module _ {F : Type 0} {g : Ghosts F} (honest : Type 0) (bytes : List ℕ) where
         failed = λ yes. let never : true ≡ false = sym yes ∙ live in absurd (cc);
         unsound = λ no wrong. let never : true ≡ false = sym sound ∙ wrong in absurd (cc);
         holds = tt;
+        beside = tt;
         done = tt;
         refused = λ P h is. let after = s.holds P h is in inl (refused after.tree (after.sound (s.seen.1 ∙ is)).0);
         rests = inr (record { holds = λ P h. (keeps_flushed mid new d same rests (s.seen.1 ∙ sound)).holds P (s.holds P h sound) });

@@ -25,7 +25,7 @@ use Rattle.msi_parts.specs.Parts.{IsSoundIn}
 use Rattle.msi_parts.specs.declared.parts.PackageParts.{PackageParts}
 use Rattle.msi_store.proofs.ShownTrees.{shown_of_held, shown_opened}
 use Rattle.msi_stored.specs.Shown.{StoreShowsTree}
-use Rattle.msi.proofs.OpenedPackages.{opens_yet}
+use Rattle.msi.proofs.OpenedPackages.{can_open, opens_yet}
 use Rattle.msi.specs.Checked.{HasDefects, IsChecked, IsMediumOf}
 use Rattle.msi.specs.Opened.{IsSoundFile}
 
@@ -76,6 +76,8 @@ module _ {F : Type 0} {g : Ghosts F} (medium : F) (a : CompoundFile F g) (opens 
 
       of_bytes : HasDefects letters (g.bytes medium) found
       of_bytes = record {
+        usable = may;
+        openable = can_open medium a opens letters named may honest Permissive (as_opened honest);
         parts = is.parts;
         shown = λ tree shows. subst (λ l. ArePartsOfTree l tree is.parts) named (is.shown tree (shown_opened Permissive letters medium a tree honest opens named (as_opened honest) shows) may_here);
         container = sound_of a;

@@ -16,13 +16,14 @@ use Rattle.cfb_tree.specs.Names.{CaseTable}
 use Rattle.cfb_tree.specs.Tree.{Tree}
 use Rattle.msi_spec.proofs.OpenedIs.{opened_is}
 use Rattle.msi_spec.proofs.PacksOnce.{packs_once}
+use Rattle.msi_spec.proofs.Splitting.{parted}
 use Rattle.msi_spec.specs.Package.{MeansPackage, PackageContent, TreePacksPackage}
 use Rattle.msi_spec.specs.declared.kind.PackageType.{PackageType}
 use Rattle.msi_pool.specs.Pool.{Pool}
 use Rattle.msi_props.specs.Props.{Props}
 use Rattle.msi_store.proofs.ShownTrees.{means_shown}
 use Rattle.msi_stored.specs.Shown.{Breaks, HasBytesOrBreaks, IsBroken}
-use Rattle.msi.specs.Committing.{BytesHoldPackage}
+use Rattle.msi.specs.Committing.{BytesHoldPackage, BytesHoldRest}
 use Rattle.msi.specs.Opened.{IsOpenedPackage, AreBytesRejected, IsSoundFile, PackageHasContent, sound_in}
 use Rattle.msi.specs.declared.package.Package.{Package}
 
@@ -57,8 +58,8 @@ module _ (letters : CaseTable) (bytes : List ℕ) (tree : Tree) where
 module _ (letters : CaseTable) (bytes : List ℕ) (P : PackageContent) (h : BytesHoldPackage letters bytes P) where
   pub never_refused : (e : Error) → AreBytesRejected letters bytes e → ⊥
   never_refused e (inl letters_touch) = let never : true ≡ false = sym h.usable ∙ letters_touch.1 in cc
-  never_refused e (inr (inl closed)) = closed.1 (can_open letters bytes h.tree h.means)
-  never_refused e (inr (inr told)) = elim (told h.tree (means_shown letters bytes h.tree h.means)) [
+  never_refused e (inr (may, inl closed)) = closed.1 (can_open letters bytes h.tree h.means)
+  never_refused e (inr (may, inr told)) = elim (told.1 h.tree (means_shown letters bytes h.tree h.means)) [
     | inl broken ↦ none_breaks letters bytes h.tree h.means broken.name broken.breaks
     | inr is ↦ not_both letters bytes h.tree (P.kind, (P.summary, P.pool)) e (sym (opened_is letters h.tree P h.packs h.usable) ∙ is)
   ]
@@ -76,3 +77,7 @@ module _ (letters : CaseTable) (bytes : List ℕ) (P : PackageContent) (h : Byte
 
   pub held_again : {F : Type 0} {g : Ghosts F} (it : Package F g) → IsOpenedPackage letters bytes it → PackageHasContent it P × IsTrue (sound_in it)
   held_again it opened = (opened.holds h.tree P h.means h.packs, opened.sound.1 sound_file)
+
+  -- they hold all of it but its texts, too
+  pub held_rest : BytesHoldRest letters bytes P
+  held_rest = record { usable = h.usable; container = h.container; tree = h.tree; means = h.means; stores = (parted letters h.tree P h.packs).0 }

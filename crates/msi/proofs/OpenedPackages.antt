@@ -1,6 +1,6 @@
 -- A package that was opened is that of its bytes, and a refusal is theirs.
 use Rattle.std.proofs.Common.{◌≡◌, ◌∙◌, ◌⊎◌, ℕ, Bool, true, false, List, refl, sym, ap, subst, inl, inr}
-use Rattle.std.specs.Prelude.{◌↔◌, ◌||◌, Err, IfErr, IfOk, IsTrue, Ok, Result}
+use Rattle.std.specs.Prelude.{⊤, ◌↔◌, ◌||◌, Err, IfErr, IfOk, IsTrue, Ok, Result}
 use Rattle.cfb.proofs.Holding.{holds_opened, holds_yet}
 use Rattle.cfb.proofs.LiveMeaning.{holds_meant, means_read}
 use Rattle.cfb.specs.FollowedRules.{FileMeansTree}
@@ -12,7 +12,7 @@ use Rattle.cfb_directory.specs.Entries.{SizesFit}
 use Rattle.cfb_directory.specs.Views.{entries_held}
 use Rattle.cfb_fat.specs.Tables.{medium_of, version_of, IsJustifiedBySectors}
 use Rattle.cfb_spec.proofs.OneTree.{tree_unique}
-use Rattle.cfb_spec.specs.Means.{BytesMeanTree}
+use Rattle.cfb_spec.specs.Means.{IsOpenable, BytesMeanTree}
 use Rattle.cfb_medium.specs.Calls.{IsJustifiedSince, IsFaultOrInvalidInputIf}
 use Rattle.cfb_medium.specs.declared.error.Error.{Error}
 use Rattle.cfb_medium.specs.declared.error.Error.TheVariants.{AlreadyExists, Device, Failed, Full, InvalidData, InvalidInput, Memory, NotFound, UnexpectedEof}
@@ -23,7 +23,9 @@ use Rattle.cfb_opening.specs.Tables.{OnlyReadsMedium}
 use Rattle.cfb.proofs.OpenedFiles.{crash_left_since}
 use Rattle.cfb_sectors.specs.declared.validation.Validation.{Validation}
 use Rattle.cfb_sectors.specs.declared.validation.Validation.TheVariants.{Permissive}
+use Rattle.cfb_opening.proofs.Readings.{means_less}
 use Rattle.cfb_tree.specs.Directory.{Entry}
+use Rattle.cfb_tree.specs.Entries.{HasSize}
 use Rattle.cfb_tree.specs.Names.{CaseTable}
 use Rattle.cfb_tree.specs.Tree.{Tree}
 use Rattle.msi_spec.specs.Opening.{keeps_encoded_names, opened}
@@ -96,6 +98,9 @@ module _ {F : Type 0} {g : Ghosts F} (medium : F) (a : CompoundFile F g) (opens 
     may_here : keeps_encoded_names (file_case_table a) ≡ true
     may_here = ap keeps_encoded_names named ∙ may
 
+    pub can_open : IsOpenable letters (g.bytes medium)
+    can_open = (as_opened.layout, as_opened.tree, means_less HasSize (λ e content. ⊤) (λ e content has. tt) as_opened.layout letters (g.bytes medium) as_opened.tree as_opened.opened.means)
+
     module _ (it : Package F g) (found : IsPackageOfFile a it) where
       parts : (tree : Tree) → ShowsTree letters (g.bytes medium) tree → (gives_back : Bool) × AreParts letters tree (kind_in it) (summary_in it) (pool_in it).pool gives_back (tables_in it)
       parts tree shows = subst (λ l. (gives_back : Bool) × AreParts l tree (kind_in it) (summary_in it) (pool_in it).pool gives_back (tables_in it)) named (found.parts tree (shown tree shows) may_here)
@@ -166,6 +171,8 @@ module _ {F : Type 0} {g : Ghosts F} (medium : F) (a : CompoundFile F g) (opens 
       pub found_opened : IsOpenedPackage letters (g.bytes medium) it
       found_opened = record {
         compared = named_here;
+        usable = may;
+        openable = can_open;
         told = λ tree shows. let here = parts tree shows in opened_is letters tree may (kind_in it) (summary_in it) (pool_in it).pool here.0 (tables_in it) here.1;
         schema = λ tree shows. let here = parts tree shows in schema_of letters tree (kind_in it) (summary_in it) (pool_in it).pool here.0 (tables_in it) here.1;
         holds = yet;
@@ -180,10 +187,16 @@ module _ {F : Type 0} {g : Ghosts F} (medium : F) (a : CompoundFile F g) (opens 
         here tree told = subst (λ b. IsLostPart letters b e ⊎ (opened letters tree ≡ Err e)) (opens.bytes honest) (subst (λ l. IsLostPart l (bytes_in a) e ⊎ (opened l tree ≡ Err e)) named told)
 
         each : (e : Error) → (IsFaultOrInvalidInputIf ⊥ e → ⊥) → Refuses letters (g.bytes medium) e → IsFaultOrInvalidInputIf ⊥ e ⊎ AreBytesRejected letters (g.bytes medium) e
-        each e none told = inr (inr (inr (λ tree shows. elim (told tree shows) [
-          | inl lost ↦ elim lost [ inl fault ↦ absurd (none fault) | inr broken ↦ inl broken ]
-          | inr is ↦ inr is
-        ])))
+        each e none told = inr (inr (
+          may,
+          inr (
+            can_open,
+            λ tree shows. elim (told tree shows) [
+              | inl lost ↦ elim lost [ inl fault ↦ absurd (none fault) | inr broken ↦ inl broken ]
+              | inr is ↦ inr is
+            ],
+          ),
+        ))
 
         by : (e : Error) → Refuses letters (g.bytes medium) e → IsFaultOrInvalidInputIf ⊥ e ⊎ AreBytesRejected letters (g.bytes medium) e
         by Memory told = inl tt

@@ -23,9 +23,9 @@ use Rattle.msi_stored.specs.Shown.{bytes_in}
 use Rattle.staged.proofs.Leaving.{leaves_then, leaves_told}
 use Rattle.msi.proofs.Changed.{DifferByFile, failed_too, keeps_held}
 use Rattle.msi.proofs.Flushed.{here_live}
-use Rattle.msi.proofs.SavedSound.{PacksSound, saved_found}
+use Rattle.msi.proofs.SavedSound.{PacksSound, rest_held, saved_found}
 use Rattle.msi.specs.Changing.{PackageCanBeWritten, PackageIsWritten, PackageWrites, failed_in}
-use Rattle.msi.specs.Committing.{HoldWhatWasHeld, BytesHoldPackage, CrashLeavesOldOrHeld, PackageCommits, PackageIsPublished}
+use Rattle.msi.specs.Committing.{HoldWhatWasHeld, BytesHoldPackage, BytesHoldRest, CrashLeavesOldOrHeld, PackageCommits, PackageIsPublished}
 use Rattle.msi.specs.Opened.{PackageHasContent, file_in, pool_in, sound_in}
 use Rattle.msi.specs.declared.package.Package.{Package}
 
@@ -125,7 +125,10 @@ module _ {F : Type 0} {g : Ghosts F} (has_published : F → List ℕ → Type 0)
         holds = still p.means P h;
         bytes = bytes_in (file_in mid);
         published = p.published means.live.owners.honest;
-        found = λ fit. subst (λ l. BytesHoldPackage l (bytes_in (file_in mid)) P) (sym d.letters) (saved_found mid P (saved fit));
+        found = (
+          subst (λ l. BytesHoldRest l (bytes_in (file_in mid)) P) (sym d.letters) (rest_held mid P h means),
+          λ fit. subst (λ l. BytesHoldPackage l (bytes_in (file_in mid)) P) (sym d.letters) (saved_found mid P (saved fit)),
+        );
         written = λ fit.
             let s = saved fit in
             let packed = subst (λ l. PacksSound l s.tree P) (sym d.letters) (record { packs = s.packs; sound = s.sound }) in record {
@@ -194,9 +197,13 @@ module _ {F : Type 0} {g : Ghosts F} (same : (m : F) → g.continues m m) (leave
       leaves_told g.moment g.crash_left_since (medium_in (file_in it)) (medium_in (file_in it)) (g.crash_may_leave (medium_in (file_in it))) (λ left. g.crash_may_leave (medium_in (file_in it)) left ⊎ ((bytes : List ℕ) × (left ≡ Some bytes) × HoldWhatWasHeld it bytes))
       (leaves (medium_in (file_in it)) (medium_in (file_in it)) (same (medium_in (file_in it)))) (λ left may. inl may)
 
-  -- the bytes that a commit publishes hold what was held
+  -- the bytes that a commit publishes keep what was held
   held_bytes : (old mid : Package F g) (u : Unit {0}) → PackageWrites (Ok u) old mid → HoldWhatWasHeld old (bytes_in (file_in mid))
-  held_bytes old mid u s P h sound fit = subst (λ l. BytesHoldPackage l (bytes_in (file_in mid)) P) s.seen.0 (saved_found mid P (s.done P h sound fit))
+  held_bytes old mid u s P h sound =
+      let after = s.holds P h sound in (
+        subst (λ l. BytesHoldRest l (bytes_in (file_in mid)) P) s.seen.0 (rest_held mid P after (after.sound (s.seen.1 ∙ sound)).0),
+        λ fit. subst (λ l. BytesHoldPackage l (bytes_in (file_in mid)) P) s.seen.0 (saved_found mid P (s.done P h sound fit)),
+      )
 
   pub commit_leaves : ((m : F) (t : ℕ) (left : Option (List ℕ)) → t ≤ g.moment m → g.crash_may_leave m left → g.crash_left_since m t left) → (old mid : Package F g) (new : CompoundFile F g) (u : Unit {0})
       → KeepsFileInvariants (allocator_of (mini_of (file_in old))) (allocator_of (mini_of (file_in mid))) → PackageWrites (Ok u) old mid

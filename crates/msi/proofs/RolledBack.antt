@@ -49,7 +49,7 @@ module _ {F : Type 0} {g : Ghosts F} (has_published : F → List ℕ → Type 0)
   -- the container refused
   pub no_way_by_file : (e : Error) → IsFaultOrInvalidInputIf survives e ⊎ (e ≡ InvalidData) → (e ≡ InvalidData → CannotOpen has_published Permissive (file_in old)) → IsNoWayBack has_published old survives e
   no_way_by_file e kind closed = record {
-    told = λ may honest published was. ⊎_elim (λ fault. inl fault) (λ is. inr (inl (inr (inl (is, (closed is).cannot honest published was))))) kind;
+    told = λ may honest published was. ⊎_elim (λ fault. inl fault) (λ is. inr (inl (inr (may, inl (is, (closed is).cannot honest published was))))) kind;
   }
 
   module _ (mid : CompoundFile F g) (rolled : FileRollsBack has_published Permissive (file_in old) mid) (letters : file_case_table mid ≡ file_case_table (file_in old))

@@ -2,6 +2,7 @@
 use Rattle.std.proofs.Common.{◌≡◌, ◌∙◌, ap, sym}
 use Rattle.std.specs.Prelude.{Ok, Some}
 use Rattle.cfb.proofs.LiveMeaning.{holds_meant}
+use Rattle.cfb.specs.FollowedRules.{FileMeansTree}
 use Rattle.cfb.specs.Views.{file_case_table, mini_of}
 use Rattle.cfb_tree_edits.specs.Live.{live_of}
 use Rattle.cfb_medium.specs.declared.medium.ReadMedium.{Ghosts}
@@ -19,8 +20,8 @@ use Rattle.msi_stored.specs.Shown.{bytes_in}
 use Rattle.msi.proofs.WrittenPool.{HoldsBack, written_pool_gives_back}
 use Rattle.msi.proofs.WrittenSummary.{written_summary_gives_back}
 use Rattle.msi.specs.Changing.{PackageCanBeWritten, PackageIsWritten}
-use Rattle.msi.specs.Committing.{BytesHoldPackage}
-use Rattle.msi.specs.Opened.{file_in}
+use Rattle.msi.specs.Committing.{BytesHoldPackage, BytesHoldRest}
+use Rattle.msi.specs.Opened.{PackageHasContent, file_in}
 use Rattle.msi.specs.declared.package.Package.{Package}
 
 -- the tree packs the package, which is sound so
@@ -90,4 +91,18 @@ module _ {F : Type 0} {g : Ghosts F} where
         means = (h.layout, h.means);
         packs = s.packs;
         sound = s.sound;
+      }
+
+  -- and they hold all of a package but its texts, of which the file means the tree
+  pub rest_held : (it : Package F g) (P : PackageContent) (held : PackageHasContent it P) → FileMeansTree (file_in it) held.tree → BytesHoldRest (file_case_table (file_in it)) (bytes_in (file_in it)) P
+  unfolding live_of
+  rest_held it P held meant =
+      let file = file_in it in
+      let m = meant.live in
+      let h = holds_meant file held.tree meant in record {
+        usable = held.usable;
+        container = (layout_of (live_of (mini_of file)) m.who m.held.root m.held.ids, held.tree, sound_is (live_of (mini_of file)) m.who (file_case_table file) held.tree m.held);
+        tree = held.tree;
+        means = (h.layout, h.means);
+        stores = held.stores;
       }

@@ -4,7 +4,7 @@ use Rattle.cfb.specs.Streams.{FileHoldsTree}
 use Rattle.cfb.specs.Views.{file_case_table, mini_of, sound_of, OnlyReadsFile}
 use Rattle.cfb.specs.declared.compound_file.CompoundFile.{CompoundFile}
 use Rattle.cfb_fat.specs.Tables.{medium_of}
-use Rattle.cfb_spec.specs.Means.{BytesMeanTree}
+use Rattle.cfb_spec.specs.Means.{IsOpenable, BytesMeanTree}
 use Rattle.cfb_spec.specs.Sound.{IsSoundContainer}
 use Rattle.cfb_medium.specs.declared.medium.ReadMedium.{Ghosts}
 use Rattle.cfb_mini.specs.Views.{allocator_of}
@@ -19,9 +19,11 @@ use Rattle.msi_parts.specs.Parts.{IsSoundIn}
 use Rattle.msi_parts.specs.declared.parts.PackageParts.{PackageParts}
 use Rattle.msi_stored.specs.Shown.{StoreShowsTree, ShowsTree}
 
--- THE DEFECTS OF A PACKAGE: its parts are those of each tree that the bytes show, and of the tree that they mean a rule is listed exactly
--- where it isn't kept.
+-- THE DEFECTS OF A PACKAGE: the bytes can be opened under a case table that leaves encoded names alone; its parts are those of each tree that
+-- they show, and of the tree that they mean a rule is listed exactly where it isn't kept.
 pub record HasDefects (letters : CaseTable) (bytes : List ℕ) (found : List Defect) : Type 0 where
+  pub usable : keeps_encoded_names letters ≡ true
+  pub openable : IsOpenable letters bytes
   pub parts : PackageParts
   pub shown : (tree : Tree) → ShowsTree letters bytes tree → ArePartsOfTree letters tree parts
   pub container : Bool

@@ -14,7 +14,7 @@ use Rattle.cfb_tree.specs.Names.{CaseTable}
 use Rattle.cfb_tree.specs.Tree.{Tree}
 use Rattle.msi_spec.specs.Package.{PackageContent}
 use Rattle.msi.specs.Changing.{IsUnsaved, KeepsHeld, PackageCanBeWritten, PackageIsWritten, PackageWrites, failed_in}
-use Rattle.msi.specs.Committing.{BytesHoldPackage}
+use Rattle.msi.specs.Committing.{BytesHoldPackage, BytesHoldRest}
 use Rattle.msi.specs.Opened.{PackageHasContent, file_in, sound_in}
 use Rattle.msi.specs.declared.package.Package.{Package}
 
@@ -33,13 +33,14 @@ module _ {F : Type 0} {g : Ghosts F} where
     pub cause : IfErr result (IsJustifiedBySectors (allocator_of (mini_of (file_in old))) (allocator_of (mini_of (file_in new))))
     pub medium_is : medium ≡ medium_in (file_in new)
 
-  -- `Failed` after a fault, `InvalidData` where it isn't sound, and it is as it was. Each sound package that was held is held, and where it
-  -- can be written it is packed by its file, and copied, where the target is honest; what comes in between is a fault, or too long. After
-  -- any error it has failed, or holds what it held.
+  -- `Failed` after a fault, `InvalidData` where it isn't sound, and it is as it was. Each sound package that was held is held. Where the target is
+  -- honest the copy holds all of it but its texts, whatever these are; where it can be written it is packed by its file, and copied whole.
+  -- What comes in between is a fault, or too long. After any error it has failed, or holds what it held.
   pub record PackageCopies (honest : Type 0) (bytes : List ℕ) (result : Result (Unit {0}) Error) (old new : Package F g) : Type 0 where
     pub failed : failed_in old ≡ true → IsErrOf result Failed × (new ≡ old)
     pub unsound : failed_in old ≡ false → sound_in old ≡ false → IsErrOf result InvalidData × (new ≡ old)
     pub holds : OnOk result ((P : PackageContent) → PackageHasContent old P → IsTrue (sound_in old) → PackageHasContent new P)
+    pub beside : OnOk result ((P : PackageContent) → PackageHasContent old P → IsTrue (sound_in old) → honest → BytesHoldRest (file_case_table (file_in old)) bytes P)
     pub done : OnOk result ((P : PackageContent) → PackageHasContent old P → IsTrue (sound_in old) → PackageCanBeWritten P
         → PackageIsWritten new P × (honest → HoldsPackageCopy (version_of (allocator_of (mini_of (file_in old)))) (file_case_table (file_in old)) bytes P))
     pub refused : IfErr result (λ e. (P : PackageContent) → PackageHasContent old P → IsTrue (sound_in old) → IsUnsaved old new e)

@@ -43,13 +43,18 @@ abbrev pub IsSoundFile : CaseTable → List ℕ → Type 0
 IsSoundFile letters bytes = IsSoundContainer letters bytes
     × (tree : Tree) × BytesMeanTree letters bytes tree × (P : PackageContent) × (packs : TreePacksPackage letters tree P) × IsSoundPackage letters tree P packs
 
--- WHY BYTES ARE REFUSED: the case table touches encoded names; the container can't be opened; or each tree that they show is refused
--- so, or a stream that opening reads breaks, which is broken data
+-- why bytes are refused under a case table that leaves encoded names alone: where the container can't be opened, as broken data alone; else each
+-- tree that they show is refused so, or a stream that opening reads breaks, which is broken data
+abbrev pub HoldNoPackage : CaseTable → List ℕ → Error → Type 0
+HoldNoPackage letters bytes e =
+    ((e ≡ InvalidData) × (IsOpenable letters bytes → ⊥))
+    ⊎ (IsOpenable letters bytes × ((tree : Tree) → ShowsTree letters bytes tree → IsBrokenPart letters bytes e ⊎ (opened letters tree ≡ Err e)))
+
+-- WHY BYTES ARE REFUSED: the case table touches encoded names, and that alone is told; or they hold no package
 abbrev pub AreBytesRejected : CaseTable → List ℕ → Error → Type 0
 AreBytesRejected letters bytes e =
     ((e ≡ InvalidInput) × (keeps_encoded_names letters ≡ false))
-    ⊎ ((e ≡ InvalidData) × (IsOpenable letters bytes → ⊥))
-    ⊎ ((tree : Tree) → ShowsTree letters bytes tree → IsBrokenPart letters bytes e ⊎ (opened letters tree ≡ Err e))
+    ⊎ ((keeps_encoded_names letters ≡ true) × HoldNoPackage letters bytes e)
 
 module _ {F : Type 0} {g : Ghosts F} where
   -- the tables and their file; the file; and the tables without their rows
@@ -103,10 +108,13 @@ module _ {F : Type 0} {g : Ghosts F} where
     pub sound : IsTrue (sound_in it) → FileMeansTree (file_in it) tree × StoresSoundPackage (file_case_table (file_in it)) tree P
     pub back : IsTrue (sound_in it) → (pool_in it).modified ≡ false → written_in it ≡ true → IsWritable P.pool → SummaryIsFit P.summary → GivesBack (file_case_table (file_in it)) tree
 
-  -- Opened over these bytes under this case table: kind, summary and pool are those that each tree tells that they show, and so are the
-  -- tables; each package that the tree packs that they mean is held; and it was judged exactly whether they hold a sound package.
+  -- Opened over these bytes under this case table, which leaves encoded names alone: a container can be opened in them; kind, summary and pool
+  -- are those that each tree tells that they show, and so are the tables; each package that the tree packs that they mean is held; and it was
+  -- judged exactly whether they hold a sound package.
   pub record IsOpenedPackage (letters : CaseTable) (bytes : List ℕ) (it : Package F g) : Type 0 where
     pub compared : file_case_table (file_in it) ≡ letters
+    pub usable : keeps_encoded_names letters ≡ true
+    pub openable : IsOpenable letters bytes
     pub told : (tree : Tree) → ShowsTree letters bytes tree → opened letters tree ≡ Ok (kind_in it, ((summary_in it).props, (pool_in it).pool))
     pub schema : (tree : Tree) → ShowsTree letters bytes tree → HasSchema letters tree (pool_in it).pool (tables_in it)
     pub holds : (tree : Tree) (P : PackageContent) → BytesMeanTree letters bytes tree → TreePacksPackage letters tree P → PackageHasContent it P

@@ -14,7 +14,8 @@ use cfb_medium::{Error, Medium};
 
 impl<F: Medium> Package<F> {
     /// Flushes the package, and publishes its bytes by a commit of the medium: a crash then leaves these alone, which are opened again as
-    /// this package, sound, where each text fits its page (`texts_fit`). Of a package without a change the bytes stay. A crash during
+    /// this package, sound, where each text fits its page (`texts_fit`). Whatever the texts, these bytes are a sound container that holds all
+    /// else of the package. Of a package without a change the bytes stay. A crash during
     /// the call, or after an error, leaves what one might have left before it, or these bytes; no other call of a package adds to
     /// what a crash may leave. `Failed` after an earlier fault. Of a package that isn't sound nothing is written or published.
     /// `InvalidInput` where a text or a stream would be too long; the other errors are faults, `Full` among them as `flush` is answered

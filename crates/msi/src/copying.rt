@@ -15,7 +15,7 @@ use cfb_medium::{Error, Medium};
 
 impl<F: Medium> Package<F> {
     /// Flushes the package, and copies its file to an empty medium: a sound file of the same version then holds the same package, sound,
-    /// where each text fits its page (`texts_fit`), and has no sector that serves no use. Colours and the root's size are set right in
+    /// where each text fits its page (`texts_fit`), else all of it but its texts; it has no sector that serves no use. Colours and the root's size are set right in
     /// it, as `CompoundFile::copy_to` says. Of neither medium anything is published. `Failed` after an earlier fault, `InvalidData`
     /// where the package isn't sound, and then nothing is touched. `InvalidInput` where a text or a stream would be too long; the other
     /// errors are faults of either medium, `Full` among them. After an error the target is as it was, and the package too, or it has

@@ -32,7 +32,7 @@ pub(crate) const LAST_ENCODED: char = '\u{4840}';
 
 impl<F: ReadMedium> Package<F> {
     /// Opens a package, whose names are compared under the case table. `InvalidInput` where the table has a pair with a character
-    /// from U+3800 to U+4840, which encoded names have; `InvalidData` where the container can't be opened; and then, one part after
+    /// from U+3800 to U+4840, which encoded names have, and that alone; `InvalidData` alone where the container can't be opened; and then, one part after
     /// the other: `InvalidData` for an unknown class identifier of the root, `NotFound`, `InvalidData` or `UnexpectedEof` of the
     /// summary and of the pool's two streams, `InvalidData` where the system tables describe no tables. The chains of other streams may
     /// break. Other errors are faults. It judges once whether the package is sound, one table's rows in memory at a time. The medium

@@ -1,10 +1,10 @@
 //! Packages, and what is told of them.
-ghost use Rattle.std.specs.Prelude.{◌≡◌, map, option_map, string_bytes, Err, IfErr, IfOk, IsErrOf, MatchResult};
+ghost use Rattle.std.specs.Prelude.{◌≡◌, false, map, option_map, string_bytes, true, Err, IfErr, IfOk, IsErrOf, MatchResult};
 ghost use Rattle.std.specs.Option.{is_some};
 ghost use Rattle.cfb.specs.Views.{file_case_table, mini_of};
-ghost use Rattle.cfb_fat.specs.Tables.{has_failed, medium_of, IsJustifiedBySectors};
+ghost use Rattle.cfb_fat.specs.Tables.{has_failed, has_failed_here, medium_of, IsJustifiedBySectors};
 ghost use Rattle.cfb_medium.specs.Calls.{IsFaultOrInvalidInputIf};
-ghost use Rattle.cfb_medium.specs.declared.error.Error.TheVariants.{InvalidInput, Memory};
+ghost use Rattle.cfb_medium.specs.declared.error.Error.TheVariants.{Failed, InvalidInput, Memory};
 ghost use Rattle.cfb_mini.specs.Views.{allocator_of};
 ghost use Rattle.msi.specs.Lists.{streams_left, tables_left};
 ghost use Rattle.msi.specs.Opened.{file_in, kind_in, pool_in, sound_in, summary_in, tables_in, PackageHasContent, OnlyReadsPackage};
@@ -104,14 +104,21 @@ impl<F: ReadMedium> Package<F> {
         store.file.into_inner()
     }
 
-    /// The names of all tables, by their bytes; `_Tables` and `_Columns` are among them. The one error is `Memory`.
+    /// The names of all tables, by their bytes; `_Tables` and `_Columns` are among them. `Failed` after a fault in a write or a commit;
+    /// else the one error is `Memory`.
     pub fn tables(&self) -> Result<Tables, Error>
         ensures held { (P : PackageContent) → PackageHasContent self.now P → IfOk result (λ it.
             map string_bytes (tables_left it) ≡ table_names P) }
         ensures names { IfOk result (λ it. map string_bytes (tables_left it)
             ≡ map (λ h. h.name) (tables_in self.now)) }
-        ensures errors { IfErr result (λ e. e ≡ Memory) }
+        ensures when_failed { has_failed_here (allocator_of (mini_of (file_in self.now))) ≡ true
+            → IsErrOf result Failed }
+        ensures errors { has_failed_here (allocator_of (mini_of (file_in self.now))) ≡ false
+            → IfErr result (λ e. e ≡ Memory) }
     {
+        if self.store.file.is_failed() {
+            return Err(Error::Failed);
+        }
         Tables::new(self.alloc, &self.store.tables)
     }
 
@@ -138,20 +145,25 @@ impl<F: ReadMedium> Package<F> {
         reading::has_stream(&self.store.file, name)
     }
 
-    /// A stream that belongs to no table, at its first byte. `InvalidInput` where no stream can have the name, `NotFound` where none
-    /// has. Other errors are faults, where a package is held. The package is only read.
+    /// A stream that belongs to no table, at its first byte. `Failed` after a fault in a write or a commit; else `InvalidInput` where no
+    /// stream can have the name, `NotFound` where none has. Other errors are faults, where a package is held. The package is only read.
     pub fn read_stream(&mut self, name: &str) -> Result<StreamReader, Error>
         ensures answer { (P : PackageContent) → PackageHasContent self.old P
             → ReturnsOrFault (λ it. it.bytes)
             (stream_read (file_case_table (file_in self.old)) P name.now) result }
-        ensures refused_only_if { may_name (file_case_table (file_in self.old)) name.now
-            ≡ Err InvalidInput
+        ensures when_failed { has_failed_here (allocator_of (mini_of (file_in self.old))) ≡ true
+            → IsErrOf result Failed }
+        ensures refused_only_if { has_failed_here (allocator_of (mini_of (file_in self.old))) ≡ false
+            → may_name (file_case_table (file_in self.old)) name.now ≡ Err InvalidInput
             → IsErrOf result InvalidInput }
         ensures only_reads { OnlyReadsPackage self.old self.new }
         ensures cause { IfErr result
             (IsJustifiedBySectors (allocator_of (mini_of (file_in self.old)))
             (allocator_of (mini_of (file_in self.new)))) }
     {
+        if self.store.file.is_failed() {
+            return Err(Error::Failed);
+        }
         reading::read_stream(&mut self.store.file, name)
     }
 

@@ -1,4 +1,4 @@
-use Rattle.std.proofs.Common.{◌∙◌, inl, inr, refl, sym}
+use Rattle.std.proofs.Common.{◌∙◌, inl, inr, refl, sym, ⊎_elim}
 use Rattle.cfb_tree.specs.CaseTableViews.{case_table_of}
 use Rattle.msi_parts.proofs.Touching.{may_be_used, may_not_be_used}
 use Rattle.msi.proofs.FoundDefects.{checked_left, checked_none, checked_told}
@@ -20,6 +20,10 @@ returns-in-Ok-clause-none g c =
 
 pub returns-in-Ok-clause-given_back : goal.returns-in-Ok-clause-given_back
 returns-in-Ok-clause-given_back g c = checked_left c.args.medium c.in-Ok.file c.in-Ok.ensures.opens c.file_defects.result c.file_defects.ensures.ok
+
+pub returns-in-Err-clause-refused_only_if : goal.returns-in-Err-clause-refused_only_if
+returns-in-Err-clause-refused_only_if g c = λ honest. ⊎_elim (λ fault. inl fault)
+    (λ is. inr (inr (may_be_used (case_table_of c.args.letters) (sym c.touches.ensures ∙ c.if-touches.false), inl (is, c.in-Err.ensures.refused_only_if is honest)))) c.in-Err.ensures.errors
 
 pub returns-in-Ok-clause-refused_only_if : goal.returns-in-Ok-clause-refused_only_if
 returns-in-Ok-clause-refused_only_if g c =

@@ -3,11 +3,11 @@ use Rattle.std.specs.Prelude.{IsTrue}
 use Rattle.cfb_medium.specs.Calls.{IsFaultOrInvalidInputIf}
 use Rattle.cfb_tree.specs.CaseTableViews.{case_table_of}
 use Rattle.msi.proofs.OpenAgain.{held_again}
-use Rattle.msi.specs.Committing.{BytesHoldPackage}
+use Rattle.msi.specs.Committing.{BytesKeepPackage}
 use Rattle.msi.specs.Opened.{IsOpenedPackage}
 use Rattle.msi_spec.specs.Opening.{keeps_encoded_names}
 use Rattle.staged.specs.Staged.{device_of, staged_bytes}
-use Rattle.installer.proofs.Based.{held_sound, settled_published}
+use Rattle.installer.proofs.Based.{held_kept, settled_published}
 use Rattle.installer.proofs.Begun.{began_counted, began_survives, begins_found, malformed_or_fault, recovered_fresh, recovery_kinds, reopen_fault, same_bytes}
 use Rattle.installer.proofs.Following.{published_yet}
 use Rattle.installer.proofs.Going.{package_live}
@@ -49,8 +49,8 @@ returns-in-Ok-open-clause-began g c = λ P held.
       bytes = bytes;
       published = published_yet d.counts_now d.rests_keeps d.rests_leaves (device_of medium) _ bytes on.device before
           (settled_published g.D.Device (device_of medium) bytes (c.in-Ok.ensures.settled first) (c.in-Ok.ensures.home first));
-      found = λ fit. subst (λ l. BytesHoldPackage l bytes P) (sym opened.compared)
-          (held_sound (case_table_of c.args.letters) bytes it opened (ap keeps_encoded_names (sym opened.compared) ∙ held.usable) sound (c.in-Ok-open.ensures.opens.bytes before) P held);
+      found = subst (λ l. BytesKeepPackage l bytes P) (sym opened.compared)
+          (held_kept (case_table_of c.args.letters) bytes it opened (ap keeps_encoded_names (sym opened.compared) ∙ held.usable) sound (c.in-Ok-open.ensures.opens.bytes before) P held);
     })
 
 pub returns-in-Ok-open-clause-opened : goal.returns-in-Ok-open-clause-opened

@@ -1,6 +1,6 @@
 use Rattle.std.proofs.Common.{◌∙◌, ap, inl, inr, refl, sym, ⊎_elim}
 use Rattle.cfb.specs.Publishing.{medium_in}
-use Rattle.installer.proofs.Answering.{behaves_live, told_error}
+use Rattle.installer.proofs.Answering.{behaves_live, told_error, told_kind}
 use Rattle.installer.proofs.Commits.{publish_goes, unpublished}
 use Rattle.installer.proofs.Following.{commit_survives, left_found, not_failed_error, published_at, published_found, published_of}
 use Rattle.installer.proofs.Going.{by_sound}
@@ -26,7 +26,8 @@ returns-clause-follows g c =
       letters = told.commits.seen.0;
       sound = told.commits.seen.1;
       behaves = behaves_live (λ m. record { device = d.rests_refl _; failed = refl }) c.args.self.now next c.requires asked.commit (told_of c.commit-published.result) told.counted told.commits.seen.1
-          (λ e is. told_error c.commit-published.result (told_of c.commit-published.result) _ e refl told.cause is) (λ e is. refl) (λ reads. absurd (cc)) (λ unsound changes. absurd (cc));
+          (λ e is. told_error c.commit-published.result (told_of c.commit-published.result) _ e refl told.cause is) (λ e is. refl) (λ reads. absurd (cc)) (λ unsound changes. absurd (cc))
+          (λ unsound _. ap told_of (told.commits.unsound c.requires unsound).0) (told_kind asked.commit refl c.commit-published.result (told_of c.commit-published.result) refl);
       still = λ unsound. rw (told.commits.unsound c.requires unsound).1 stay;
       survives = λ start at.
           let held = at.place.held (at.place.phase ∙ ap phase_of c.requires) in

@@ -18,7 +18,7 @@ returns-in-None g c =
 pub returns-in-Ok : goal.returns-in-Ok
 returns-in-Ok g c =
     let G = g.met.F.ReadMedium in
-    answers_told G.continues_refl G.continues_keeps c.args.self.now _ c.requires refl (rests_itself (package_in c.args.self.now)) (asked.columns c.args.name.now) (told.columns _) refl refl
+    answers_told G.continues_refl G.continues_keeps c.args.self.now _ c.requires refl (rests_itself (package_in c.args.self.now)) (asked.columns c.args.name.now) (told.columns _) refl refl refl
     (λ P h.
     let found = columns_found (package_in c.args.self.now) P h c.args.name.now _ (sym c.in-Some.ensures) in
     reads_ok (found_table P c.args.name.now) found.0 (λ t. told.columns t.columns) P _ found.1 (ap (λ columns. told.columns columns) (c.in-Ok.ensures.copies ∙ c.columns.ensures ∙ sym found.2)))
@@ -26,4 +26,4 @@ returns-in-Ok g c =
 pub returns-in-Err : goal.returns-in-Err
 returns-in-Err g c =
     let G = g.met.F.ReadMedium in
-    answers_memory G.continues_refl G.continues_keeps c.args.self.now _ c.requires refl (rests_itself (package_in c.args.self.now)) (asked.columns c.args.name.now) c.in-Err.error refl c.in-Err.ensures.errors
+    answers_memory G.continues_refl G.continues_keeps c.args.self.now _ c.requires refl (rests_itself (package_in c.args.self.now)) (asked.columns c.args.name.now) c.in-Err.error refl c.in-Err.ensures.errors (λ _. refl)

@@ -1,8 +1,9 @@
-use Rattle.std.proofs.Common.{inl, refl, subst}
-use Rattle.installer.proofs.Answering.{answers_changes, answers_memory, may_fill, rests_itself}
+use Rattle.std.proofs.Common.{◌∙◌, inl, refl, subst, sym}
+use Rattle.std.proofs.lemmas.Bool.{both_ways}
+use Rattle.installer.proofs.Answering.{answers_changes, answers_memory, answers_unsound, may_fill, rests_itself}
 use Rattle.msi_columns.specs.Held.{columns_of}
 use Rattle.msi_spec.specs.Calls.{Creates}
-use Rattle.installer.specs.Sessions.{session_case_table, package_in}
+use Rattle.installer.specs.Sessions.{is_sound, session_case_table, package_in}
 use Rattle.installer.proofs.session.SessionOver.create_table.Goals as goal
 
 pub returns-in-Ok : goal.returns-in-Ok
@@ -15,4 +16,9 @@ returns-in-Ok g c =
 pub returns-in-Err : goal.returns-in-Err
 returns-in-Err g c =
     let G = g.met.F.ReadMedium in
-    answers_memory G.continues_refl G.continues_keeps c.args.self.now _ c.requires refl (rests_itself (package_in c.args.self.now)) _ c.in-Err.error refl c.in-Err.ensures.errors
+    answers_memory G.continues_refl G.continues_keeps c.args.self.now _ c.requires refl (rests_itself (package_in c.args.self.now)) _ c.in-Err.error refl c.in-Err.ensures.errors (λ unsound. absurd (both_ways (is_sound c.args.self.now) unsound (sym c.is_sound.ensures ∙ c.if-not-is_sound.false)))
+
+pub returns-then-not-is_sound : goal.returns-then-not-is_sound
+returns-then-not-is_sound g c =
+    let G = g.met.F.ReadMedium in
+    answers_unsound G.continues_refl G.continues_keeps c.args.self.now _ c.requires refl (rests_itself (package_in c.args.self.now)) _ refl (sym c.is_sound.ensures ∙ c.if-not-is_sound.true)

@@ -8,5 +8,5 @@ use Rattle.installer.proofs.session.SessionOver.has_signature.Goals as goal
 pub returns : goal.returns
 returns g c =
     let G = g.met.F.ReadMedium in
-    answers_told G.continues_refl G.continues_keeps c.args.self.now _ c.requires refl (rests_itself (package_in c.args.self.now)) asked.has_signature (told.answers _) refl refl
+    answers_told G.continues_refl G.continues_keeps c.args.self.now _ c.requires refl (rests_itself (package_in c.args.self.now)) asked.has_signature (told.answers _) refl refl refl
     (λ P h. (refl, ap (λ yes. told.answers yes) (c.has_digital_signature.ensures P h)))

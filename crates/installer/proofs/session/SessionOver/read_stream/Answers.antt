@@ -9,7 +9,7 @@ use Rattle.installer.proofs.session.SessionOver.read_stream.Goals as goal
 pub returns-in-Ok : goal.returns-in-Ok
 returns-in-Ok g c =
     let G = g.met.F.ReadMedium in
-    answers_told G.continues_refl G.continues_keeps c.args.self.now _ c.requires refl c.read_stream.ensures.only_reads (asked.read_stream c.args.name.now) (told.bytes _) refl refl
+    answers_told G.continues_refl G.continues_keeps c.args.self.now _ c.requires refl c.read_stream.ensures.only_reads (asked.read_stream c.args.name.now) (told.bytes _) refl refl refl
     (λ P h. reads_ok (stream_read (session_case_table c.args.self.now) P c.args.name.now) _ (λ bytes. told.bytes bytes) P _ (c.in-Ok.ensures.answer P h) (ap (λ bytes. told.bytes bytes) c.into_bytes.ensures))
 
 pub returns-in-Err : goal.returns-in-Err

@@ -19,11 +19,11 @@ returns-in-Err g c =
 pub returns-in-Ok-values_of_rows : goal.returns-in-Ok-values_of_rows
 returns-in-Ok-values_of_rows g c =
     let G = g.met.F.ReadMedium in
-    answers_told G.continues_refl G.continues_keeps c.args.self.now _ c.requires refl c.select_rows.ensures.only_reads (asked.select (query_of c.args.select.now)) (told.rows _ _) refl refl
+    answers_told G.continues_refl G.continues_keeps c.args.self.now _ c.requires refl c.select_rows.ensures.only_reads (asked.select (query_of c.args.select.now)) (told.rows _ _) refl refl refl
     (λ P h. reads_ok (selected_in P (query_of c.args.select.now)) (rows_shown c.in-Ok.rows) (λ s. told.rows s.0 s.1) P _ (c.in-Ok.ensures.answer P h)
     (ap (λ s. told.rows s.0 s.1) c.in-Ok-values_of_rows.ensures.answer))
 
 pub returns-in-Err-values_of_rows : goal.returns-in-Err-values_of_rows
 returns-in-Err-values_of_rows g c =
     let G = g.met.F.ReadMedium in
-    answers_memory G.continues_refl G.continues_keeps c.args.self.now _ c.requires refl c.select_rows.ensures.only_reads (asked.select (query_of c.args.select.now)) c.in-Err-values_of_rows.error refl c.in-Err-values_of_rows.ensures.errors
+    answers_memory G.continues_refl G.continues_keeps c.args.self.now _ c.requires refl c.select_rows.ensures.only_reads (asked.select (query_of c.args.select.now)) c.in-Err-values_of_rows.error refl c.in-Err-values_of_rows.ensures.errors (λ _. refl)

@@ -10,10 +10,10 @@ use Rattle.installer.proofs.session.SessionOver.summary.Goals as goal
 pub returns-in-Ok : goal.returns-in-Ok
 returns-in-Ok g c =
     let G = g.met.F.ReadMedium in
-    answers_told G.continues_refl G.continues_keeps c.args.self.now _ c.requires refl (rests_itself (package_in c.args.self.now)) asked.summary (told.summary _) refl refl
+    answers_told G.continues_refl G.continues_keeps c.args.self.now _ c.requires refl (rests_itself (package_in c.args.self.now)) asked.summary (told.summary _) refl refl refl
     (λ P h. (refl, ap (λ values. told.summary values) (c.in-Ok.ensures.copies ∙ c.properties.ensures ∙ ap (λ (s : SetState). s.props.values) c.summary_info.ensures ∙ ap (λ (s : Props). s.values) h.memory.summary)))
 
 pub returns-in-Err : goal.returns-in-Err
 returns-in-Err g c =
     let G = g.met.F.ReadMedium in
-    answers_memory G.continues_refl G.continues_keeps c.args.self.now _ c.requires refl (rests_itself (package_in c.args.self.now)) asked.summary c.in-Err.error refl c.in-Err.ensures.errors
+    answers_memory G.continues_refl G.continues_keeps c.args.self.now _ c.requires refl (rests_itself (package_in c.args.self.now)) asked.summary c.in-Err.error refl c.in-Err.ensures.errors (λ _. refl)

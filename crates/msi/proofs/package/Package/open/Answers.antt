@@ -1,4 +1,4 @@
-use Rattle.std.proofs.Common.{◌∙◌, inl, inr, refl, sym}
+use Rattle.std.proofs.Common.{◌∙◌, inl, inr, refl, sym, ⊎_elim}
 use Rattle.cfb_tree.specs.CaseTableViews.{case_table_of}
 use Rattle.msi_parts.proofs.Touching.{may_be_used, may_not_be_used}
 use Rattle.msi.proofs.OpenedPackages.{answer_cause, answer_left, answer_opened, answer_opens, answer_refused}
@@ -14,6 +14,10 @@ pub returns-in-Ok-clause-opened : goal.returns-in-Ok-clause-opened
 returns-in-Ok-clause-opened g c =
     answer_opened c.args.medium c.in-Ok.file c.in-Ok.ensures.opens c.opened_package.result c.opened_package.ensures.ok
     (case_table_of c.args.letters) c.in-Ok.ensures.letters (may_be_used (case_table_of c.args.letters) (sym c.touches.ensures ∙ c.if-touches.false)) c.in-Ok.ensures.opened
+
+pub returns-in-Err-clause-refused_only_if : goal.returns-in-Err-clause-refused_only_if
+returns-in-Err-clause-refused_only_if g c = λ honest. ⊎_elim (λ fault. inl fault)
+    (λ is. inr (inr (may_be_used (case_table_of c.args.letters) (sym c.touches.ensures ∙ c.if-touches.false), inl (is, c.in-Err.ensures.refused_only_if is honest)))) c.in-Err.ensures.errors
 
 pub returns-in-Ok-clause-refused_only_if : goal.returns-in-Ok-clause-refused_only_if
 returns-in-Ok-clause-refused_only_if g c =
