@@ -61,13 +61,21 @@ class Files:
         return self.get("home"), self.get("log")
 
     def do(self, word, *more, **settings):
-        """A run of the program; the settings are the library's."""
+        """A run of the program on the package and its log; the settings are the library's."""
+        return self.traced(word, "home.msi", "home.log", *more, **settings)
+
+    def adopt_in_place(self, **settings):
+        """The package is put right where it lies."""
+        return self.traced("adopt", "--in-place", "--log", "home.log", "home.msi", **settings)
+
+    def traced(self, *line, **settings):
+        """A run of the program on these words."""
         trace = f"{self.folder}/calls"
         with contextlib.suppress(FileNotFoundError):
             os.remove(trace)
         words = {"cwd": self.folder, "stdin": subprocess.DEVNULL, "stdout": subprocess.PIPE, "stderr": subprocess.PIPE}
         own = {"LD_PRELOAD": self.library, "FOLDER": self.folder, "CALLS": trace, **{name: str(it) for name, it in settings.items()}}
-        ran = subprocess.run([self.program, word, "home.msi", "home.log", *more], env={**os.environ, **own}, **words)
+        ran = subprocess.run([self.program, *line], env={**os.environ, **own}, **words)
         try:
             with open(trace, "rb") as it:
                 calls = calls_of(it.read())

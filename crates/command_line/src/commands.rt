@@ -188,7 +188,19 @@ fn tell_notes<R: Files<File = File> + AllocGlobal, E: Write>(
             "msidb: {named}: {count} {noun} behind the last commit {verb} gone; the command `{{\"op\":\"commit\"}}` keeps what was done before it"
         );
     }
-    if heard.has_committed && is_signed_at(rt, names) {
+    if heard.has_committed {
+        tell_signature(rt, names, err);
+    }
+}
+
+/// Tells of a package that was changed that it has a signature.
+pub(crate) fn tell_signature<R: Files<File = File> + AllocGlobal, E: Write>(
+    rt: &R,
+    names: &Names,
+    err: &mut E,
+) {
+    if is_signed_at(rt, names) {
+        let named = names.named();
         let _ = writeln!(
             err,
             "msidb: {named}: its digital signature no longer fits; `{{\"op\":\"remove_signature\"}}` takes it away"

@@ -1,6 +1,7 @@
 //! The command line of `msidb`: what is done about its words.
 #![tactic(auto)]
 
+mod adoption;
 mod commands;
 mod edits;
 mod empties;

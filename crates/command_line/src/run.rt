@@ -1,6 +1,7 @@
 //! What the program does with its words.
 ghost use Rattle.std.specs.Prelude.{◌≤◌, IfErr};
 
+use crate::adoption::adopt_there;
 use crate::commands::{Ending, Manner, run};
 use crate::edits::{Property, put_stream, set_property, unset_property};
 use crate::failures::failure_of;
@@ -14,7 +15,7 @@ use cfb::MemoryMedium;
 use cfb_medium::Error;
 use clap::error::ErrorKind;
 use command_file::{Command, slip_in};
-use command_words::{Line, Log, RunOptions, read_words};
+use command_words::{AdoptOptions, Line, Log, RunOptions, read_words};
 use installer_runs::Until;
 use msi::Package;
 use package_checks::{adopted_package, check_package};
@@ -88,9 +89,11 @@ fn carry_out<R: Files<File = File> + AllocGlobal + Clock, O: Write, E: Write>(
 {
     match line {
         Line::Create(package, log) => on_files(rt, Word::Create, package, log, out, err),
-        Line::Adopt(package, log, source, beside, validation) => {
-            let word = Word::Adopt(source, beside, validation);
-            on_files(rt, word, package, log, out, err)
+        Line::Adopt(package, log, source, beside, options) => {
+            match adoption_of(source, beside, options) {
+                Ok(word) => on_files(rt, word, package, log, out, err),
+                Err(why) => tell_words(why, err),
+            }
         }
         Line::Recover(package, log) => on_files(rt, Word::Recover, package, log, out, err),
         Line::List(package, log) => on_files(rt, Word::List, package, log, out, err),
@@ -151,12 +154,41 @@ fn named<R: Files<File = File> + AllocGlobal, E: Write>(
     }
 }
 
+// How a package is adopted, or why these words say nothing.
+fn adoption_of<'a>(
+    source: Option<&'a str>,
+    beside: Option<&'a str>,
+    options: AdoptOptions,
+) -> Result<Word<'a>, &'static str> {
+    let validation = options.validation;
+    match (source, options.in_place) {
+        (Some(source), false) => Ok(Word::Adopt(source, beside, validation)),
+        (None, true) if validation || beside.is_some() => {
+            Err("--in-place changes counts alone; leave --validation and --source-log out")
+        }
+        (None, true) => Ok(Word::AdoptInPlace),
+        (Some(_), true) => {
+            Err("--in-place puts PACKAGE itself right; leave SOURCE or --in-place out")
+        }
+        (None, false) => Err("SOURCE is missing; or --in-place puts PACKAGE itself right"),
+    }
+}
+
+// Tells why words that the program takes say nothing together.
+fn tell_words<E: Write>(why: &str, err: &mut E) -> u8
+    ensures { result ≤ 3 }
+{
+    tell(why, err);
+    2
+}
+
 // What is done with a package and its log.
 #[derive(Clone, Copy, Debug)]
 enum Word<'a> {
     Create,
     // With the path of the package that is read, and that of its log where it is named; and whether it gets an empty _Validation.
     Adopt(&'a str, Option<&'a str>, bool),
+    AdoptInPlace,
     Recover,
     List,
     // With the path of the command file, whether progress is shown, and how it is run.
@@ -212,6 +244,7 @@ fn do_word<R: Files<File = File> + AllocGlobal + Clock, O: Write, E: Write>(
             };
             return adopt_file(rt, names, &source, has_validation, out, err);
         }
+        Word::AdoptInPlace => return adopt_there(rt, names, out, err),
         Word::Recover => finish(rt, names, out, err),
         Word::List => list(rt, names, out, err),
         Word::Run(commands, shows_progress, options) => {
@@ -305,7 +338,7 @@ fn tell_slip<E: Write>(path: &str, number: usize, err: &mut E) {
 }
 
 // The status of a word, and what went wrong is told.
-fn status_of<E: Write>(ended: Result<Ending, Failure>, names: &Names, err: &mut E) -> u8
+pub(crate) fn status_of<E: Write>(ended: Result<Ending, Failure>, names: &Names, err: &mut E) -> u8
     ensures { result ≤ 3 }
 {
     match ended {
@@ -426,7 +459,7 @@ fn tell_no_log<E: Write>(names: &Names, err: &mut E) {
 }
 
 // Prints what was done.
-fn answer<O: Write>(what: &str, out: &mut O) -> Result<Ending, Failure> {
+pub(crate) fn answer<O: Write>(what: &str, out: &mut O) -> Result<Ending, Failure> {
     match writeln!(out, "{what}") {
         Ok(()) => Ok(Ending::Done),
         Err(error) => Err(Failure::Output(error.kind())),

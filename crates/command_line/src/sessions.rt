@@ -2,7 +2,7 @@
 use cfb::{CaseMapper, MemoryMedium};
 use cfb_medium::Error;
 use installer::Command;
-use installer_runs::{Ending, Listener, Until, copy_on, create_on, run_on};
+use installer_runs::{Ending, Listener, Until, adopt_in_place_on, copy_on, create_on, run_on};
 use msi::Package;
 use package_files::PackageDevice;
 use std::alloc::Global;
@@ -30,6 +30,16 @@ pub(crate) fn run_commands<R: Files<File = File>, L: Listener>(
     let letters = CaseMapper::ascii(alloc)?;
     let (_device, ending) = run_on(alloc, device, letters, commands, until, listener);
     Ok(ending)
+}
+
+/// Gives a package that is there right counts, and commits it.
+pub(crate) fn adopt_on_device<R: Files<File = File>>(
+    alloc: Global,
+    device: PackageDevice<'_, R>,
+) -> Result<(), Error> {
+    let letters = CaseMapper::ascii(alloc)?;
+    let (_device, adopted) = adopt_in_place_on(alloc, device, letters);
+    adopted
 }
 
 /// Commits a copy of a package to a device whose own is empty, once the device was recovered. `AlreadyExists` where it isn't empty.

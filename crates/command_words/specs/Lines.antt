@@ -4,6 +4,7 @@ use Rattle.std.specs.Borrow.{Bor}
 use Rattle.std.specs.Str.{bytes_eq}
 use Rattle.clap.specs.Words.{Row, Text, first_of, subcommand_of}
 use Rattle.command_words.specs.Words.{msidb}
+use Rattle.command_words.specs.declared.line.AdoptOptions.{AdoptOptions}
 use Rattle.command_words.specs.declared.line.Line.{Line}
 use Rattle.command_words.specs.declared.line.Line.TheVariants.{Adopt, Check, Create, List as ListNames, Export, Extract, Get, Put, Recover, Run, Set, Show, Unset}
 use Rattle.command_words.specs.declared.line.Log.{Log}
@@ -16,7 +17,7 @@ abbrev pub words_of_line : Line → Text × List (Text × Text)
 words_of_line (Create home log) = (codes "create", (codes "PACKAGE", home.now) ∷ [])
 words_of_line (Recover home log) = (codes "recover", (codes "PACKAGE", home.now) ∷ [])
 words_of_line (Run home log commands options) = (codes "run", (codes "PACKAGE", home.now) ∷ [])
-words_of_line (Adopt home log source beside validation) = (codes "adopt", (codes "PACKAGE", home.now) ∷ (codes "SOURCE", source.now) ∷ [])
+words_of_line (Adopt home log source beside options) = (codes "adopt", (codes "PACKAGE", home.now) ∷ [])
 words_of_line (ListNames home log) = (codes "list", (codes "PACKAGE", home.now) ∷ [])
 words_of_line (Show file log parts) = (codes "show", (codes "FILE", file.now) ∷ [])
 words_of_line (Check file log) = (codes "check", (codes "FILE", file.now) ∷ [])
@@ -47,6 +48,10 @@ AreAsked parts rows = (option_map (λ s. s.now) parts.table ≡ first_of (codes 
 abbrev pub AreOptions : RunOptions → List Row → Type 0
 AreOptions options rows = (options.quiet ≡ is_set (first_of (codes "quiet") rows)) × (options.stop ≡ is_set (first_of (codes "stop") rows))
     × (options.all_or_nothing ≡ is_set (first_of (codes "all-or-nothing") rows))
+
+-- so a package is adopted
+abbrev pub AreAdoptions : AdoptOptions → List Row → Type 0
+AreAdoptions options rows = (options.validation ≡ is_set (first_of (codes "validation") rows)) × (options.in_place ≡ is_set (first_of (codes "in-place") rows))
 
 -- which log is named: none, one, or two
 pub data Named : Type 0 where
@@ -79,7 +84,7 @@ log_among first (Some last) = first
 abbrev pub IsNamedIn : Log → Option Text → List Row → Type 0
 IsNamedIn log among rows = named_by log ≡ named among (first_of (codes "log") rows)
 
--- the log of a package that is only read, where one is named under this name
+-- the path that is named under this name, where one is
 abbrev pub IsReadLog : Option (Bor Text) → Text → List Row → Type 0
 IsReadLog log name rows = option_map (λ s. s.now) log ≡ first_of name rows
 
@@ -88,7 +93,7 @@ abbrev pub AsksFor : Line → List Row → Type 0
 AsksFor (Create home log) rows = IsNamedIn log (first_of (codes "LOG") rows) rows
 AsksFor (Recover home log) rows = IsNamedIn log (first_of (codes "LOG") rows) rows
 AsksFor (ListNames home log) rows = IsNamedIn log (first_of (codes "LOG") rows) rows
-AsksFor (Adopt home log source beside validation) rows = IsNamedIn log None rows × IsReadLog beside (codes "source-log") rows × (validation ≡ is_set (first_of (codes "validation") rows))
+AsksFor (Adopt home log source beside options) rows = IsNamedIn log None rows × IsReadLog beside (codes "source-log") rows × IsReadLog source (codes "SOURCE") rows × AreAdoptions options rows
 AsksFor (Run home log commands options) rows = let first = first_of (codes "COMMANDS") rows in let last = first_of (codes "LAST") rows in
     (Some commands.now ≡ commands_among first last) × IsNamedIn log (log_among first last) rows × AreOptions options rows
 AsksFor (Show file log parts) rows = IsReadLog log (codes "log") rows × AreAsked parts rows

@@ -53,9 +53,10 @@ property_unset = or_summary (with_two (new_app (codes "unset")) (codes "PACKAGE"
 abbrev pub stream_moved : Text → Text → App
 stream_moved name file = with_rule (with_rule (with_two (new_app name) file (codes "STREAM")) (path (codes "PATH"))) log_option
 
--- the word that adopts a package: its own path, and that of the package that is read, with its log behind `--log`, and a flag
+-- the word that adopts a package: its own path, and that of the package that is read, which may be missing, with its log behind `--log`, and two
+-- flags
 abbrev pub sourced : App
-sourced = with_rule (with_rule (with_rule (new_app (codes "adopt")) (path (codes "PACKAGE"))) (path (codes "SOURCE"))) log_option
+sourced = with_rule (with_rule (with_rule (new_app (codes "adopt")) (path (codes "PACKAGE"))) (new_rule (codes "SOURCE"))) log_option
 
 -- the log of the package that is read, behind `--source-log`
 abbrev pub source_log_option : Rule
@@ -65,7 +66,7 @@ abbrev pub source_logged : App
 source_logged = with_rule sourced source_log_option
 
 abbrev pub adopted : App
-adopted = with_rule source_logged (flag (codes "validation"))
+adopted = with_rule (with_rule source_logged (flag (codes "validation"))) (flag (codes "in-place"))
 
 -- the word that shows a package: its path, a table's name, which may be missing, three flags, and its log
 abbrev pub table_shown : App

@@ -2,7 +2,7 @@
 ghost use Rattle.std.specs.Prelude.{◌≡◌, IfOk, IfErr, IfSome, codes, option_map, map, string_bytes, true};
 ghost use Rattle.clap.specs.Words.{first_of, found_of, kind_of, rows_of, subcommand_rows_of, takes};
 ghost use Rattle.command_words.specs.Words.{msidb};
-ghost use Rattle.command_words.specs.Lines.{words_of_line, is_set, named, named_by, AreIn, AreAsked, AreOptions, AsksFor, IsNamedIn, SaidIn, HasSaid};
+ghost use Rattle.command_words.specs.Lines.{words_of_line, is_set, named, named_by, AreIn, AreAdoptions, AreAsked, AreOptions, AsksFor, IsNamedIn, SaidIn, HasSaid};
 
 use crate::words::matches;
 use clap::error::ErrorKind;
@@ -44,15 +44,24 @@ pub struct RunOptions {
     pub all_or_nothing: bool,
 }
 
+/// How a package is adopted.
+#[derive(Clone, Copy, Debug, PartialEq, Eq)]
+pub struct AdoptOptions {
+    /// It gets an empty `_Validation`, where it has none.
+    pub validation: bool,
+    /// It is put right where it lies.
+    pub in_place: bool,
+}
+
 /// What the program is asked for: the path of a package with its log, and of a command file; or the path of a file, and what is shown
 /// of it.
 #[derive(Clone, Copy, Debug, PartialEq, Eq)]
 pub enum Line<'a> {
     /// Make a new package.
     Create(&'a str, Log<'a>),
-    /// Make a package of one of any maker, whose texts are counted otherwise, with the log of that one, where it is named; and whether it
-    /// gets an empty `_Validation`, where it has none.
-    Adopt(&'a str, Log<'a>, &'a str, Option<&'a str>, bool),
+    /// Make a package of one of any maker, whose texts are counted otherwise, with the log of that one, where it is named; or put one right
+    /// where it lies, which names no other.
+    Adopt(&'a str, Log<'a>, Option<&'a str>, Option<&'a str>, AdoptOptions),
     /// Finish a commit.
     Recover(&'a str, Log<'a>),
     /// Run the commands of a file.
@@ -252,11 +261,20 @@ fn line_of_adoption<'a>(paths: &ArgMatches<'a>) -> Option<Line<'a>>
         × AsksFor line (rows_of (found_of paths.now))) }
 {
     let package = path(paths, "PACKAGE")?;
-    let source = path(paths, "SOURCE")?;
+    let source = path(paths, "SOURCE");
     let log = log_in(None, paths);
     let beside = path(paths, "source-log");
-    let validation = has_flag(paths, "validation");
-    Some(Line::Adopt(package, log, source, beside, validation))
+    let options = adoption_in(paths);
+    Some(Line::Adopt(package, log, source, beside, options))
+}
+
+fn adoption_in(paths: &ArgMatches<'_>) -> AdoptOptions
+    ensures { AreAdoptions result (rows_of (found_of paths.now)) }
+{
+    AdoptOptions {
+        validation: has_flag(paths, "validation"),
+        in_place: has_flag(paths, "in-place"),
+    }
 }
 
 // The log that is named among the paths, or behind `--log`.

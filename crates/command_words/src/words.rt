@@ -304,7 +304,7 @@ fn with_folder<'a>(alloc: Global) -> Result<Command<'a>, AllocError>
 
 // What stands behind the help of the word that adopts a package.
 fn help_on_adopt<'a>() -> &'a str {
-    "Example: msidb adopt setup.msi other.msi\nMakes the package, and by its commit the log setup.msi.log. It holds what the other one does, and counts each text as often as cells use it. A package\nthat breaks further rules isn't adopted: they are told as `check` tells them, and nothing is made. The other package is only read.\nTables can be made and dropped only where there is a table _Validation: with --validation a package without one gets an empty one.\nStatus: 0 done, 1 rules are broken, 3 the other file is no package, or there is a package already."
+    "Example: msidb adopt setup.msi other.msi\nMakes the package, and by its commit the log setup.msi.log. It holds what the other one does, and counts each text as often as cells use it. A package\nthat breaks further rules isn't adopted: they are told as `check` tells them, and nothing is made. The other package is only read.\nTables can be made and dropped only where there is a table _Validation: with --validation a package without one gets an empty one.\nWith --in-place the package is put right where it lies, in one commit: only the counts of its texts change, and of a sound one nothing does.\nStatus: 0 done, 1 rules are broken, 2 SOURCE and --in-place, or neither, 3 the file is no package, or there is a package already."
 }
 
 // The word that adopts a package, with the paths of both.
@@ -319,9 +319,13 @@ fn with_source<'a>(alloc: Global) -> Result<Command<'a>, AllocError>
     );
     let first = add(
         command,
-        needed_path(alloc, "PACKAGE", "The package that is made"),
+        needed_path(
+            alloc,
+            "PACKAGE",
+            "The package that is made, or with --in-place put right",
+        ),
     )?;
-    let source = needed_path(
+    let source = optional_path(
         alloc,
         "SOURCE",
         "The package of any maker, which is only read",
@@ -338,7 +342,7 @@ fn with_source_log<'a>(alloc: Global) -> Result<Command<'a>, AllocError>
     add(command, source_log_behind(alloc))
 }
 
-// The same with a flag for an empty _Validation.
+// The same with a flag for an empty _Validation, and one for a package that is put right where it lies.
 fn with_adoption<'a>(alloc: Global) -> Result<Command<'a>, AllocError>
     ensures { IfOk result (λ c. app_of c ≡ adopted) }
 {
@@ -348,7 +352,13 @@ fn with_adoption<'a>(alloc: Global) -> Result<Command<'a>, AllocError>
         "validation",
         "An empty table _Validation, where there is none",
     );
-    add(command, validation)
+    let in_place = flag_of(
+        alloc,
+        "in-place",
+        "PACKAGE itself is put right where it lies, and there is no SOURCE",
+    );
+    let copied = add(command, validation)?;
+    add(copied, in_place)
 }
 
 // A word with two paths or names.

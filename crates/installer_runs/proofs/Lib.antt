@@ -1,10 +1,11 @@
+pub mod Adopted
+pub mod Along
+pub mod Copied
 pub mod Fitting
 pub mod Hearing
-pub mod Along
 pub mod Holding
-pub mod Whole
-pub mod Copied
 pub mod Made
 pub mod Parting
-pub mod Slicing
 pub mod Refusing
+pub mod Slicing
+pub mod Whole

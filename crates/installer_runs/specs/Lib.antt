@@ -1,3 +1,4 @@
 pub mod Runs
 pub mod Making
 pub mod Copying
+pub mod Adopting

@@ -1,12 +1,14 @@
 //! Whole runs on the two files of a device: a package made, or commands run, from recovery on until the device is given back.
 #![tactic(auto)]
 
+mod adopting;
 mod copying;
 mod creating;
 mod listener;
 mod running;
 mod slices;
 
+pub use adopting::adopt_in_place_on;
 pub use copying::copy_on;
 pub use creating::create_on;
 pub use listener::Listener;

@@ -26,6 +26,7 @@ use Rattle.cfb_sectors.specs.declared.validation.Validation.TheVariants.{Permiss
 use Rattle.cfb_tree.specs.Names.{CaseTable}
 use Rattle.cfb_tree.specs.Tree.{Tree}
 use Rattle.msi_spec.proofs.PacksOnce.{packs_once}
+use Rattle.msi_spec.specs.Opening.{keeps_encoded_names}
 use Rattle.msi_spec.specs.Package.{PackageContent, TreePacksPackage}
 use Rattle.msi_spec.specs.Sound.{IsSoundPackage}
 use Rattle.msi_parts.specs.Parts.{IsSoundIn}
@@ -33,15 +34,34 @@ use Rattle.msi_recounted.proofs.Adopted.{adopted, packed, sound_before}
 use Rattle.msi_recounted.specs.Recounted.{CanBeAdopted, GotCounts, recounted}
 use Rattle.msi_stored.specs.Shown.{bytes_in}
 use Rattle.msi_streams.specs.Writing.{most_bytes}
+use Rattle.msi_adopting.specs.InPlace.{HoldSomePackage}
 use Rattle.msi_adopting.specs.Adopted.{GetsPool, PublishesNothing, IsAdopted, IsUnadopted}
 
 module _ {F : Type 0} {g : Ghosts F} where
-  sound_bytes : (it : CompoundFile F g) (tree : Tree) → FileMeansTree it tree → IsSoundContainer (file_case_table it) (bytes_in it)
+  pub sound_bytes : (it : CompoundFile F g) (tree : Tree) → FileMeansTree it tree → IsSoundContainer (file_case_table it) (bytes_in it)
   unfolding live_of
   sound_bytes it tree m = (layout_of (live_of (mini_of it)) m.live.who m.live.held.root m.live.held.ids, tree, sound_is (live_of (mini_of it)) m.live.who (file_case_table it) tree m.live.held)
 
-  meant_bytes : (it : CompoundFile F g) (tree : Tree) → FileMeansTree it tree → BytesMeanTree (file_case_table it) (bytes_in it) tree
+  pub meant_bytes : (it : CompoundFile F g) (tree : Tree) → FileMeansTree it tree → BytesMeanTree (file_case_table it) (bytes_in it) tree
   meant_bytes it tree m = let h = holds_meant it tree m in (h.layout, h.means)
+
+  -- what was judged to be sound holds a sound package
+  pub some_sound : (letters : CaseTable) (mid new : CompoundFile F g) → file_case_table mid ≡ letters → keeps_encoded_names letters ≡ true → (after : Tree) → FileMeansTree mid after
+      → IsSoundIn (file_case_table mid) after (sound_of mid) → OnlyReadsFile mid new → HoldSomePackage letters (bytes_in new)
+  some_sound letters mid new same may after m judged rests =
+      let so : IsSoundIn letters after (sound_of mid) = subst (λ l. IsSoundIn l after (sound_of mid)) same judged in
+      let now = means_read mid new after rests m in
+      let named : file_case_table new ≡ letters = rests.letters ∙ same in (
+        so.1,
+        record {
+          usable = may;
+          container = subst (λ l. IsSoundContainer l (bytes_in new)) named (sound_bytes new after now);
+          tree = after;
+          means = subst (λ l. BytesMeanTree l (bytes_in new) after) named (meant_bytes new after now);
+          packs = so.2;
+          sound = so.3;
+        },
+      )
 
 -- a package of the tree, which is sound
 abbrev PacksSound : CaseTable → Tree → PackageContent → Type 0

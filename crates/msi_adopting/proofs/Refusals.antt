@@ -94,3 +94,15 @@ module _ {F : Type 0} {g : Ghosts F} where
           → MatchResult r (λ is. IsTrue is ↔ IsSoundIn (file_case_table a) tree (sound_of a)) (IsFaultOrInvalidInputIf ⊥)
       by (Ok is) told fault = subst (λ s. IsTrue is ↔ IsSoundIn (file_case_table a) tree s) rests.sound (subst (λ l. IsTrue is ↔ IsSoundIn l tree (sound_of b)) rests.letters told)
       by (Err e) told fault = fault
+
+  -- and so is what was found sound
+  pub found_then : (a b : CompoundFile F g) → OnlyReadsFile a b → (tree : Tree) → FileHoldsTree a tree → keeps_encoded_names (file_case_table a) ≡ true → (parts : PackageParts) → ArePartsOfTree (file_case_table a) tree parts
+      → (r : Result Bool Error)
+      → ((tree : Tree) → FileHoldsTree b tree → keeps_encoded_names (file_case_table b) ≡ true → ArePartsOfTree (file_case_table b) tree parts → IfOk r (λ is. IsTrue is ↔ IsSoundIn (file_case_table b) tree (sound_of b)))
+      → IfOk r (λ is. IsTrue is → IsSoundIn (file_case_table a) tree (sound_of a))
+  found_then a b rests tree held may parts are r told =
+      by r (told tree (holds_yet a b tree rests held) (ap keeps_encoded_names rests.letters ∙ may) (subst (λ l. ArePartsOfTree l tree parts) (sym rests.letters) are))
+    where
+      by : (r : Result Bool Error) → IfOk r (λ is. IsTrue is ↔ IsSoundIn (file_case_table b) tree (sound_of b)) → IfOk r (λ is. IsTrue is → IsSoundIn (file_case_table a) tree (sound_of a))
+      by (Ok is) told = λ yes. subst (λ s. IsSoundIn (file_case_table a) tree s) rests.sound (subst (λ l. IsSoundIn l tree (sound_of b)) rests.letters (told.0 yes))
+      by (Err e) told = tt

@@ -37,7 +37,7 @@ left_then honest continues a b same extends (Ok m) left = (left.0 ∙ same, λ s
 left_then honest continues a b same extends (Err e) left = (left.0 ∙ same, λ start from. left.1 start (extends start from))
 
 module _ (letters : CaseTable) (tree : Tree) (P : PackageContent) where
-  longer : (A B : Type 0) (e : Error) → (A → B) → IsUnadopted letters tree P A e → IsUnadopted letters tree P B e
+  pub longer : (A B : Type 0) (e : Error) → (A → B) → IsUnadopted letters tree P A e → IsUnadopted letters tree P B e
   longer A B e more (inl fault) = inl fault
   longer A B e more (inr (inl rule)) = inr (inl rule)
   longer A B e more (inr (inr (is, long))) = inr (inr (is, more long))

@@ -1,2 +1,3 @@
 pub mod Adopted
 pub mod Counted
+pub mod InPlace

@@ -78,7 +78,7 @@ pub fn adopt<S: ReadMedium, T: Medium>(
 }
 
 // The first stream of the package's pool, with right counts.
-fn recounted_pool<F: ReadMedium>(
+pub(crate) fn recounted_pool<F: ReadMedium>(
     alloc: Global,
     file: &mut CompoundFile<F>,
 ) -> Result<Vec<u8>, Error>

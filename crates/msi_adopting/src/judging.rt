@@ -1,5 +1,5 @@
 //! Whether a file holds a sound package.
-ghost use Rattle.std.specs.Prelude.{◌≡◌, ◌↔◌, true, IfErr, IsTrue, MatchResult};
+ghost use Rattle.std.specs.Prelude.{◌≡◌, ◌↔◌, true, IfErr, IfOk, IsTrue, MatchResult};
 ghost use Rattle.cfb.specs.Streams.{FileHoldsTree};
 ghost use Rattle.cfb.specs.Views.{file_case_table, mini_of, sound_of, OnlyReadsFile};
 ghost use Rattle.cfb_fat.specs.Tables.{IsJustifiedBySectors};
@@ -28,6 +28,9 @@ pub(crate) fn holds_sound<F: ReadMedium>(
         → MatchResult result (λ is. IsTrue is
         ↔ IsSoundIn (file_case_table file.old) tree (sound_of file.old))
         (IsFaultOrInvalidInputIf ⊥) }
+    ensures found { (tree : Tree) → FileHoldsTree file.old tree
+        → keeps_encoded_names (file_case_table file.old) ≡ true → IfOk result (λ is. IsTrue is
+        → IsSoundIn (file_case_table file.old) tree (sound_of file.old)) }
     ensures only_reads { OnlyReadsFile file.old file.new }
     ensures cause { IfErr result (IsJustifiedBySectors (allocator_of (mini_of file.old))
         (allocator_of (mini_of file.new))) }

@@ -3,8 +3,10 @@
 
 mod adopting;
 mod counting;
+mod in_place;
 mod judging;
 mod putting;
 
 pub use adopting::adopt;
 pub use counting::uses_of_places;
+pub use in_place::adopt_in_place;

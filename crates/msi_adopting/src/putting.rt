@@ -1,5 +1,5 @@
 //! The pool of a copy of a package, put in its place.
-ghost use Rattle.std.specs.Prelude.{◌≡◌, ◌⊎◌, ◌<◌, ◌∷◌, [], false, length, string_bytes, IfErr, IfOk, IsTrue, MatchResult, OnOk, Some};
+ghost use Rattle.std.specs.Prelude.{◌≡◌, ◌⊎◌, ◌<◌, ◌∷◌, [], false, true, length, string_bytes, IfErr, IfOk, IsTrue, MatchResult, OnOk, Some};
 ghost use Rattle.cfb.specs.FollowedRules.{FileMeansTree};
 ghost use Rattle.cfb.specs.Views.{file_case_table, mini_of};
 ghost use Rattle.cfb_copying.specs.Copied.{HoldsCopy};
@@ -15,6 +15,8 @@ ghost use Rattle.cfb_chain_io.specs.ChainEffects.{KeepsFileInvariants};
 ghost use Rattle.cfb_tree.specs.CaseTableViews.{case_table_of};
 ghost use Rattle.cfb_tree.specs.Tree.{Tree};
 ghost use Rattle.msi_adopting.specs.Adopted.{GetsPool, PublishesNothing, IsAdopted, IsAdoptError, IsUnadopted};
+ghost use Rattle.msi_adopting.specs.InPlace.{HoldSomePackage};
+ghost use Rattle.msi_spec.specs.Opening.{keeps_encoded_names};
 ghost use Rattle.msi_spec.specs.Package.{has_slash, stream_name, PackageContent};
 ghost use Rattle.msi_recounted.specs.Recounted.{GotCounts};
 ghost use Rattle.msi_stored.specs.Shown.{bytes_in};
@@ -57,7 +59,7 @@ pub(crate) fn with_pool<T: Medium>(
 }
 
 // Puts the pool's first stream into a file, which is then judged: `InvalidData` where it holds no sound package.
-fn put_judged<F: Medium>(
+pub(crate) fn put_judged<F: Medium>(
     alloc: Global,
     file: &mut CompoundFile<F>,
     pool: &[u8],
@@ -66,6 +68,9 @@ fn put_judged<F: Medium>(
         → GetsPool (file_case_table file.old) tree P pool.now → MatchResult result
         (λ done. IsAdopted (file_case_table file.old) tree P (bytes_in file.new))
         (IsUnadopted (file_case_table file.old) tree P (most_bytes file.old < length pool.now)) }
+    ensures sound { OnOk result ((tree : Tree) → FileMeansTree file.old tree
+        → keeps_encoded_names (file_case_table file.old) ≡ true
+        → HoldSomePackage (file_case_table file.old) (bytes_in file.new)) }
     ensures invariants { KeepsFileInvariants (allocator_of (mini_of file.old))
         (allocator_of (mini_of file.new)) }
     ensures cause { IfErr result (IsJustifiedBySectors (allocator_of (mini_of file.old))
@@ -87,6 +92,8 @@ fn put_pool<F: Medium>(alloc: Global, file: &mut CompoundFile<F>, pool: &[u8]) -
     ensures got { OnOk result ((tree : Tree) (P : PackageContent) → FileMeansTree file.old tree
         → GetsPool (file_case_table file.old) tree P pool.now → (after : Tree)
         × FileMeansTree file.new after × GotCounts (file_case_table file.old) tree P after) }
+    ensures means { OnOk result ((tree : Tree) → FileMeansTree file.old tree → (after : Tree)
+        × FileMeansTree file.new after) }
     ensures refused_only_if { IfErr result
         (λ e. (tree : Tree) (P : PackageContent) → FileMeansTree file.old tree
         → GetsPool (file_case_table file.old) tree P pool.now → IsFaultOrFull e

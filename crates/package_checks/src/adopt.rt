@@ -74,6 +74,26 @@ fn counted_package<R: Files<File = File> + AllocGlobal, O: Write, E: Write>(
     }
 }
 
+/// Tells why a package wasn't adopted where it lies, and gives the status: 1 where it breaks further rules, a line for each; 3 where the file is
+/// no package, or nothing can be written.
+pub fn tell_unadopted<R: Files<File = File> + AllocGlobal, O: Write, E: Write>(
+    rt: &R,
+    names: &Names,
+    error: Error,
+    out: &mut O,
+    err: &mut E,
+) -> u8
+    ensures { result ≤ 3 }
+{
+    if error == Error::InvalidData {
+        if let Ok(found) = defects_at(rt, names) {
+            return tell_defects(rt, names, &found, out, err);
+        }
+    }
+    tell_why_refused(rt, names, error, err);
+    3
+}
+
 // Writes a line for each rule that a package breaks.
 fn tell_defects<R: Files<File = File> + AllocGlobal, O: Write, E: Write>(
     rt: &R,

@@ -8,5 +8,5 @@ mod containers;
 mod packages;
 mod places;
 
-pub use adopt::adopted_package;
+pub use adopt::{adopted_package, tell_unadopted};
 pub use check::check_package;

@@ -5,7 +5,7 @@ use Rattle.cfb_mini.specs.Views.{allocator_of}
 use Rattle.cfb_chain_io.proofs.GoingOn.{goes_cause, goes_then, rests_go_on}
 use Rattle.msi_spec.specs.Opening.{keeps_encoded_names}
 use Rattle.msi_recounted.specs.Recounted.{recounted}
-use Rattle.msi_adopting.proofs.JudgedCopies.{judged_no, judged_yes, packs_there}
+use Rattle.msi_adopting.proofs.JudgedCopies.{judged_no, judged_yes, packs_there, some_sound}
 use Rattle.msi_adopting.proofs.putting.put_judged.Goals as goal
 
 pub returns-in-Err-clause-answer : goal.returns-in-Err-clause-answer
@@ -62,3 +62,11 @@ pub returns-in-Err-holds_sound-clause-cause : goal.returns-in-Err-holds_sound-cl
 returns-in-Err-holds_sound-clause-cause g c =
     goes_cause (allocator_of (mini_of c.args.file.now)) (allocator_of (mini_of c.put_pool.new.file)) (allocator_of (mini_of c.holds_sound.new.file)) c.in-Err-holds_sound.error
     c.put_pool.ensures.invariants c.in_default.ensures.not_failed c.in-Err-holds_sound.ensures.cause
+
+pub returns-in-Ok-true-clause-sound : goal.returns-in-Ok-true-clause-sound
+returns-in-Ok-true-clause-sound g c tree m may =
+    let mid = c.put_pool.new.file in
+    let same = c.put_pool.ensures.letters in
+    let did = c.in_default.ensures.means tree m in
+    some_sound (file_case_table c.args.file.now) mid c.holds_sound.new.file same may did.0 did.1
+    (c.in-Ok-true.ensures.found did.0 (holds_meant mid did.0 did.1) (ap keeps_encoded_names same ∙ may) c.in-Ok-true.field-0-test) c.holds_sound.ensures.only_reads
