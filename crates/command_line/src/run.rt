@@ -14,7 +14,7 @@ use cfb::MemoryMedium;
 use cfb_medium::Error;
 use clap::error::ErrorKind;
 use command_file::{Command, slip_in};
-use command_words::{Line, Log, RunOptions, read_words};
+use command_words::{Adoption, Line, Log, Pages, Parts, RunOptions, read_words};
 use installer_runs::Until;
 use msi::Package;
 use package_checks::{adopted_package, check_package};
@@ -22,7 +22,7 @@ use package_files::{
     Failure, Faults, Found, Names, Trouble, cut_log, names_of, remove_fresh, tell, tell_failure,
     tell_failure_of,
 };
-use package_views::{export_package, extract_stream, get_property, show_package};
+use package_views::{export_package, extract_stream, get_property, pages_of, show_package};
 use staged::Recovered;
 use std::alloc::Global;
 use std::fs::File;
@@ -88,8 +88,8 @@ fn carry_out<R: Files<File = File> + AllocGlobal + Clock, O: Write, E: Write>(
 {
     match line {
         Line::Create(package, log) => on_files(rt, Word::Create, package, log, out, err),
-        Line::Adopt(package, log, source, beside, validation) => {
-            let word = Word::Adopt(source, beside, validation);
+        Line::Adopt(package, log, source, beside, adoption) => {
+            let word = Word::Adopt(source, beside, adoption);
             on_files(rt, word, package, log, out, err)
         }
         Line::Recover(package, log) => on_files(rt, Word::Recover, package, log, out, err),
@@ -98,10 +98,10 @@ fn carry_out<R: Files<File = File> + AllocGlobal + Clock, O: Write, E: Write>(
             let word = Word::Run(commands, terminals.err, options);
             on_files(rt, word, package, log, out, err)
         }
-        Line::Get(path, log, name, is_field) => match named(rt, path, log, err) {
-            Ok(names) => get_property(rt, &names, name, is_field, out, err),
-            Err(status) => status,
-        },
+        Line::Get(path, log, name, is_field, pages) => {
+            let look = Look::Get(name, is_field);
+            look_at(rt, look, path, log, pages, out, err)
+        }
         Line::Set(package, log, name, value, is_field) => {
             let word = Word::Set(Property { name, is_field }, value);
             on_files(rt, word, package, log, out, err)
@@ -118,18 +118,72 @@ fn carry_out<R: Files<File = File> + AllocGlobal + Clock, O: Write, E: Write>(
             let word = Word::Put(stream, from);
             on_files(rt, word, package, log, out, err)
         }
-        Line::Show(path, log, parts) => match named(rt, path, log, err) {
-            Ok(names) => show_package(rt, &names, parts, terminals.out, out, err),
-            Err(status) => status,
-        },
-        Line::Check(path, log) => match named(rt, path, log, err) {
-            Ok(names) => check_package(rt, &names, out, err),
-            Err(status) => status,
-        },
-        Line::Export(path, log, folder) => match named(rt, path, log, err) {
-            Ok(names) => export_package(rt, &names, folder, err),
-            Err(status) => status,
-        },
+        Line::Show(path, log, parts, pages) => {
+            let look = Look::Show(parts, terminals.out);
+            look_at(rt, look, path, log, pages, out, err)
+        }
+        Line::Check(path, log, pages) => look_at(rt, Look::Check, path, log, pages, out, err),
+        Line::Export(path, log, folder, pages) => {
+            look_at(rt, Look::Export(folder), path, log, pages, out, err)
+        }
+    }
+}
+
+// What is done with a package that is only read, by the code pages of its texts.
+#[derive(Clone, Copy, Debug)]
+enum Look<'a> {
+    // With its parts, and whether a person reads them.
+    Show(Parts<'a>, bool),
+    Check,
+    // With the folder.
+    Export(&'a str),
+    // With the name, and whether it is a field of the summary.
+    Get(&'a str, bool),
+}
+
+// Does what is asked for with a package that is only read.
+fn look_at<R: Files<File = File> + AllocGlobal, O: Write, E: Write>(
+    rt: &R,
+    look: Look<'_>,
+    path: &str,
+    log: Option<&str>,
+    pages: Pages<'_>,
+    out: &mut O,
+    err: &mut E,
+) -> u8
+    ensures { result ≤ 3 }
+{
+    let pages = match asked(pages, err) {
+        Ok(pages) => pages,
+        Err(status) => return status,
+    };
+    let names = match named(rt, path, log, err) {
+        Ok(names) => names,
+        Err(status) => return status,
+    };
+    match look {
+        Look::Show(parts, is_terminal) => {
+            show_package(rt, &names, parts, pages, is_terminal, out, err)
+        }
+        Look::Check => check_package(rt, &names, pages, out, err),
+        Look::Export(folder) => export_package(rt, &names, pages, folder, err),
+        Look::Get(name, is_field) => get_property(rt, &names, name, is_field, pages, out, err),
+    }
+}
+
+// The code pages that words ask for. Where one is none, the status is given, and why is told.
+fn asked<E: Write>(pages: Pages<'_>, err: &mut E) -> Result<package_views::Pages, u8>
+    ensures { IfErr result (λ status. status ≤ 3) }
+{
+    match pages_of(pages) {
+        Ok(pages) => Ok(pages),
+        Err(word) => {
+            let _ = writeln!(
+                err,
+                "msidb: {word} is no code page that is known; 1252, 1251, 932 and 65001 are some"
+            );
+            Err(2)
+        }
     }
 }
 
@@ -155,8 +209,8 @@ fn named<R: Files<File = File> + AllocGlobal, E: Write>(
 #[derive(Clone, Copy, Debug)]
 enum Word<'a> {
     Create,
-    // With the path of the package that is read, and that of its log where it is named; and whether it gets an empty _Validation.
-    Adopt(&'a str, Option<&'a str>, bool),
+    // With the path of the package that is read, and that of its log where it is named.
+    Adopt(&'a str, Option<&'a str>, Adoption<'a>),
     Recover,
     List,
     // With the path of the command file, whether progress is shown, and how it is run.
@@ -205,12 +259,12 @@ fn do_word<R: Files<File = File> + AllocGlobal + Clock, O: Write, E: Write>(
 {
     let ended = match word {
         Word::Create => create(rt, names, out),
-        Word::Adopt(source, log, has_validation) => {
+        Word::Adopt(source, log, adoption) => {
             let source = match named(rt, source, log, err) {
                 Ok(source) => source,
                 Err(status) => return status,
             };
-            return adopt_file(rt, names, &source, has_validation, out, err);
+            return adopt_file(rt, names, &source, adoption, out, err);
         }
         Word::Recover => finish(rt, names, out, err),
         Word::List => list(rt, names, out, err),
@@ -347,23 +401,52 @@ fn why_not_made(error: Error) -> Failure {
     }
 }
 
-// Makes a package of one of any maker, which is read first, with an empty _Validation where it is to have one and has none.
+// Makes a package of one of any maker, which is read first.
 fn adopt_file<R: Files<File = File> + AllocGlobal, O: Write, E: Write>(
     rt: &R,
     names: &Names,
     source: &Names,
-    has_validation: bool,
+    adoption: Adoption<'_>,
     out: &mut O,
     err: &mut E,
 ) -> u8
     ensures { result ≤ 3 }
 {
-    let mut package = match adopted_package(rt, source, has_validation, out, err) {
+    let pages = match asked_of(adoption, err) {
+        Ok(pages) => pages,
+        Err(status) => return status,
+    };
+    let mut package = match adopted_package(rt, source, pages, adoption.validation, out, err) {
         Ok(package) => package,
         Err(status) => return status,
     };
     let ended = keep_copy(rt, names, &mut package, out);
     status_of(ended, names, err)
+}
+
+// The code pages by which the texts of a package are put in UTF-8, if they are to be. Where pages are named for nothing, or one is none,
+// the status is given, and why is told.
+fn asked_of<E: Write>(
+    adoption: Adoption<'_>,
+    err: &mut E,
+) -> Result<Option<package_views::Pages>, u8>
+    ensures { IfErr result (λ status. status ≤ 3) }
+{
+    let words = adoption.pages;
+    if !adoption.utf8 {
+        if words.texts.is_none() && words.summary.is_none() {
+            return Ok(None);
+        }
+        tell(
+            "--from-codepage and --from-summary-codepage go with --to-utf8",
+            err,
+        );
+        return Err(2);
+    }
+    match asked(words, err) {
+        Ok(pages) => Ok(Some(pages.in_utf8())),
+        Err(status) => Err(status),
+    }
 }
 
 // Makes the files of a package, and commits a copy of this one there.
