@@ -93,7 +93,7 @@ fn tell_part_read<E: Write>(path: &str, part: &PartRead, words: Words, err: &mut
         tell_kept_back(path, words, err);
     }
     if !part.is_asked {
-        tell_hint(path, part, words, err);
+        tell_hint(path, hint_of(part), words, err);
     }
 }
 
@@ -144,23 +144,61 @@ fn tell_kept_back<E: Write>(path: &str, words: Words, err: &mut E) {
     );
 }
 
-// Tells which page would fit a part that no words ask a page of.
-fn tell_hint<E: Write>(path: &str, part: &PartRead, words: Words, err: &mut E) {
-    let (subject, option) = (words.subject, words.option);
-    let _ = match (part.named, part.read_by) {
-        (Some(named), None) if NumberedPage::from_id(named).is_none() => writeln!(
+// Which page would fit a part that no words ask a page of.
+#[derive(Clone, Copy, Debug)]
+enum Hint {
+    // The part names a page that isn't known.
+    Unknown(u32),
+    // It names UTF-8, and its texts are in another page.
+    Other,
+    // Its texts are UTF-8, and it names this page.
+    Utf8(u32),
+    // The page that it names.
+    Named,
+}
+
+fn hint_of(part: &PartRead) -> Hint {
+    match part.read_by {
+        Some(page) => hint_of_texts(page, part.letters),
+        None => hint_of_name(part.named),
+    }
+}
+
+// Of texts that stand so, and are read by this page.
+fn hint_of_texts(page: u32, letters: Letters) -> Hint {
+    match letters {
+        Letters::Other if is_utf8(page) => Hint::Other,
+        Letters::Utf8 if !is_utf8(page) => Hint::Utf8(page),
+        _ => Hint::Named,
+    }
+}
+
+// Of a part that is read by no page.
+fn hint_of_name(named: Option<u32>) -> Hint {
+    match named {
+        Some(page) if NumberedPage::from_id(page).is_none() => Hint::Unknown(page),
+        _ => Hint::Named,
+    }
+}
+
+// Tells which page would fit a part.
+fn tell_hint<E: Write>(path: &str, hint: Hint, words: Words, err: &mut E) {
+    let subject = words.subject;
+    let option = words.option;
+    let _ = match hint {
+        Hint::Unknown(named) => writeln!(
             err,
             "msidb: {path}: {subject} are in code page {named}, which isn't known; {option} reads them by another"
         ),
-        (_, Some(page)) if is_utf8(page) && part.letters == Letters::Other => writeln!(
+        Hint::Other => writeln!(
             err,
             "msidb: {path}: {subject} aren't UTF-8; {option} reads them by their maker's code page, as 1252"
         ),
-        (_, Some(page)) if !is_utf8(page) && part.letters == Letters::Utf8 => writeln!(
+        Hint::Utf8(page) => writeln!(
             err,
             "msidb: {path}: {subject} are UTF-8, and code page {page} is named there; {option} 65001 reads them so"
         ),
-        _ => Ok(()),
+        Hint::Named => Ok(()),
     };
 }
 
