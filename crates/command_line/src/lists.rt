@@ -5,7 +5,7 @@ use cfb_medium::Error;
 use installer::Answer;
 use msi::Package;
 use package_files::{Failure, Names, Shown, check_shown};
-use package_views::{package_at, streams_of, tables_of, trouble_of};
+use package_views::{package_as_named, streams_of, tables_of, trouble_of};
 use std::alloc::Global;
 use std::fs::File;
 use std::io::Write;
@@ -20,7 +20,7 @@ pub(crate) fn list<R: Files<File = File> + AllocGlobal, O: Write, E: Write>(
     err: &mut E,
 ) -> Result<Ending, Failure> {
     check_shown(rt, names, err)?;
-    match package_at(rt, names) {
+    match package_as_named(rt, names) {
         Ok(package) => print_names(rt.alloc(), &package, out),
         Err(Error::Memory) => Err(Failure::Memory),
         Err(error) => Err(Failure::Package(trouble_of(rt, names, error))),

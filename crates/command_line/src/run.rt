@@ -15,7 +15,7 @@ use cfb::MemoryMedium;
 use cfb_medium::Error;
 use clap::error::ErrorKind;
 use command_file::{Command, slip_in};
-use command_words::{AdoptOptions, Line, Log, RunOptions, read_words};
+use command_words::{Adoption, Line, Log, Pages, Parts, RunOptions, read_words};
 use installer_runs::Until;
 use msi::Package;
 use package_checks::{adopted_package, check_package};
@@ -23,7 +23,7 @@ use package_files::{
     Failure, Faults, Found, Names, Trouble, cut_log, names_of, remove_fresh, tell, tell_failure,
     tell_failure_of,
 };
-use package_views::{export_package, extract_stream, get_property, show_package};
+use package_views::{export_package, extract_stream, get_property, pages_of, show_package};
 use staged::Recovered;
 use std::alloc::Global;
 use std::fs::File;
@@ -89,8 +89,8 @@ fn carry_out<R: Files<File = File> + AllocGlobal + Clock, O: Write, E: Write>(
 {
     match line {
         Line::Create(package, log) => on_files(rt, Word::Create, package, log, out, err),
-        Line::Adopt(package, log, source, beside, options) => {
-            match adoption_of(source, beside, options) {
+        Line::Adopt(package, log, source, beside, adoption) => {
+            match adoption_of(source, beside, adoption) {
                 Ok(word) => on_files(rt, word, package, log, out, err),
                 Err(why) => tell_words(why, err),
             }
@@ -101,10 +101,10 @@ fn carry_out<R: Files<File = File> + AllocGlobal + Clock, O: Write, E: Write>(
             let word = Word::Run(commands, terminals.err, options);
             on_files(rt, word, package, log, out, err)
         }
-        Line::Get(path, log, name, is_field) => match named(rt, path, log, err) {
-            Ok(names) => get_property(rt, &names, name, is_field, out, err),
-            Err(status) => status,
-        },
+        Line::Get(path, log, name, is_field, pages) => {
+            let look = Look::Get(name, is_field);
+            look_at(rt, look, path, log, pages, out, err)
+        }
         Line::Set(package, log, name, value, is_field) => {
             let word = Word::Set(Property { name, is_field }, value);
             on_files(rt, word, package, log, out, err)
@@ -121,18 +121,72 @@ fn carry_out<R: Files<File = File> + AllocGlobal + Clock, O: Write, E: Write>(
             let word = Word::Put(stream, from);
             on_files(rt, word, package, log, out, err)
         }
-        Line::Show(path, log, parts) => match named(rt, path, log, err) {
-            Ok(names) => show_package(rt, &names, parts, terminals.out, out, err),
-            Err(status) => status,
-        },
-        Line::Check(path, log) => match named(rt, path, log, err) {
-            Ok(names) => check_package(rt, &names, out, err),
-            Err(status) => status,
-        },
-        Line::Export(path, log, folder) => match named(rt, path, log, err) {
-            Ok(names) => export_package(rt, &names, folder, err),
-            Err(status) => status,
-        },
+        Line::Show(path, log, parts, pages) => {
+            let look = Look::Show(parts, terminals.out);
+            look_at(rt, look, path, log, pages, out, err)
+        }
+        Line::Check(path, log, pages) => look_at(rt, Look::Check, path, log, pages, out, err),
+        Line::Export(path, log, folder, pages) => {
+            look_at(rt, Look::Export(folder), path, log, pages, out, err)
+        }
+    }
+}
+
+// What is done with a package that is only read, by the code pages of its texts.
+#[derive(Clone, Copy, Debug)]
+enum Look<'a> {
+    // With its parts, and whether a person reads them.
+    Show(Parts<'a>, bool),
+    Check,
+    // With the folder.
+    Export(&'a str),
+    // With the name, and whether it is a field of the summary.
+    Get(&'a str, bool),
+}
+
+// Does what is asked for with a package that is only read.
+fn look_at<R: Files<File = File> + AllocGlobal, O: Write, E: Write>(
+    rt: &R,
+    look: Look<'_>,
+    path: &str,
+    log: Option<&str>,
+    pages: Pages<'_>,
+    out: &mut O,
+    err: &mut E,
+) -> u8
+    ensures { result ≤ 3 }
+{
+    let pages = match asked(pages, err) {
+        Ok(pages) => pages,
+        Err(status) => return status,
+    };
+    let names = match named(rt, path, log, err) {
+        Ok(names) => names,
+        Err(status) => return status,
+    };
+    match look {
+        Look::Show(parts, is_terminal) => {
+            show_package(rt, &names, parts, pages, is_terminal, out, err)
+        }
+        Look::Check => check_package(rt, &names, pages, out, err),
+        Look::Export(folder) => export_package(rt, &names, pages, folder, err),
+        Look::Get(name, is_field) => get_property(rt, &names, name, is_field, pages, out, err),
+    }
+}
+
+// The code pages that words ask for. Where one is none, the status is given, and why is told.
+fn asked<E: Write>(pages: Pages<'_>, err: &mut E) -> Result<package_views::Pages, u8>
+    ensures { IfErr result (λ status. status ≤ 3) }
+{
+    match pages_of(pages) {
+        Ok(pages) => Ok(pages),
+        Err(word) => {
+            let _ = writeln!(
+                err,
+                "msidb: {word} is no code page that is known; 1252, 1251, 932 and 65001 are some"
+            );
+            Err(2)
+        }
     }
 }
 
@@ -158,13 +212,15 @@ fn named<R: Files<File = File> + AllocGlobal, E: Write>(
 fn adoption_of<'a>(
     source: Option<&'a str>,
     beside: Option<&'a str>,
-    options: AdoptOptions,
+    adoption: Adoption<'a>,
 ) -> Result<Word<'a>, &'static str> {
-    let validation = options.validation;
-    match (source, options.in_place) {
-        (Some(source), false) => Ok(Word::Adopt(source, beside, validation)),
-        (None, true) if validation || beside.is_some() => {
-            Err("--in-place changes counts alone; leave --validation and --source-log out")
+    let makes_more = adoption.validation || adoption.utf8;
+    match (source, adoption.in_place) {
+        (Some(source), false) => Ok(Word::Adopt(source, beside, adoption)),
+        (None, true) if makes_more || beside.is_some() => {
+            Err(
+                "--in-place changes counts alone; leave --validation, --to-utf8 and --source-log out",
+            )
         }
         (None, true) => Ok(Word::AdoptInPlace),
         (Some(_), true) => {
@@ -186,8 +242,8 @@ fn tell_words<E: Write>(why: &str, err: &mut E) -> u8
 #[derive(Clone, Copy, Debug)]
 enum Word<'a> {
     Create,
-    // With the path of the package that is read, and that of its log where it is named; and whether it gets an empty _Validation.
-    Adopt(&'a str, Option<&'a str>, bool),
+    // With the path of the package that is read, and that of its log where it is named.
+    Adopt(&'a str, Option<&'a str>, Adoption<'a>),
     AdoptInPlace,
     Recover,
     List,
@@ -237,12 +293,12 @@ fn do_word<R: Files<File = File> + AllocGlobal + Clock, O: Write, E: Write>(
 {
     let ended = match word {
         Word::Create => create(rt, names, out),
-        Word::Adopt(source, log, has_validation) => {
+        Word::Adopt(source, log, adoption) => {
             let source = match named(rt, source, log, err) {
                 Ok(source) => source,
                 Err(status) => return status,
             };
-            return adopt_file(rt, names, &source, has_validation, out, err);
+            return adopt_file(rt, names, &source, adoption, out, err);
         }
         Word::AdoptInPlace => return adopt_there(rt, names, out, err),
         Word::Recover => finish(rt, names, out, err),
@@ -380,23 +436,52 @@ fn why_not_made(error: Error) -> Failure {
     }
 }
 
-// Makes a package of one of any maker, which is read first, with an empty _Validation where it is to have one and has none.
+// Makes a package of one of any maker, which is read first.
 fn adopt_file<R: Files<File = File> + AllocGlobal, O: Write, E: Write>(
     rt: &R,
     names: &Names,
     source: &Names,
-    has_validation: bool,
+    adoption: Adoption<'_>,
     out: &mut O,
     err: &mut E,
 ) -> u8
     ensures { result ≤ 3 }
 {
-    let mut package = match adopted_package(rt, source, has_validation, out, err) {
+    let pages = match asked_of(adoption, err) {
+        Ok(pages) => pages,
+        Err(status) => return status,
+    };
+    let mut package = match adopted_package(rt, source, pages, adoption.validation, out, err) {
         Ok(package) => package,
         Err(status) => return status,
     };
     let ended = keep_copy(rt, names, &mut package, out);
     status_of(ended, names, err)
+}
+
+// The code pages by which the texts of a package are put in UTF-8, if they are to be. Where pages are named for nothing, or one is none,
+// the status is given, and why is told.
+fn asked_of<E: Write>(
+    adoption: Adoption<'_>,
+    err: &mut E,
+) -> Result<Option<package_views::Pages>, u8>
+    ensures { IfErr result (λ status. status ≤ 3) }
+{
+    let words = adoption.pages;
+    if !adoption.utf8 {
+        if words.texts.is_none() && words.summary.is_none() {
+            return Ok(None);
+        }
+        tell(
+            "--from-codepage and --from-summary-codepage go with --to-utf8",
+            err,
+        );
+        return Err(2);
+    }
+    match asked(words, err) {
+        Ok(pages) => Ok(Some(pages.in_utf8())),
+        Err(status) => Err(status),
+    }
 }
 
 // Makes the files of a package, and commits a copy of this one there.

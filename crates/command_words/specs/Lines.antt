@@ -4,11 +4,12 @@ use Rattle.std.specs.Borrow.{Bor}
 use Rattle.std.specs.Str.{bytes_eq}
 use Rattle.clap.specs.Words.{Row, Text, first_of, subcommand_of}
 use Rattle.command_words.specs.Words.{msidb}
-use Rattle.command_words.specs.declared.line.AdoptOptions.{AdoptOptions}
 use Rattle.command_words.specs.declared.line.Line.{Line}
 use Rattle.command_words.specs.declared.line.Line.TheVariants.{Adopt, Check, Create, List as ListNames, Export, Extract, Get, Put, Recover, Run, Set, Show, Unset}
+use Rattle.command_words.specs.declared.line.Adoption.{Adoption}
 use Rattle.command_words.specs.declared.line.Log.{Log}
 use Rattle.command_words.specs.declared.line.Log.TheVariants.{At, Beside, Twice}
+use Rattle.command_words.specs.declared.line.Pages.{Pages}
 use Rattle.command_words.specs.declared.line.Parts.{Parts}
 use Rattle.command_words.specs.declared.line.RunOptions.{RunOptions}
 
@@ -17,12 +18,12 @@ abbrev pub words_of_line : Line → Text × List (Text × Text)
 words_of_line (Create home log) = (codes "create", (codes "PACKAGE", home.now) ∷ [])
 words_of_line (Recover home log) = (codes "recover", (codes "PACKAGE", home.now) ∷ [])
 words_of_line (Run home log commands options) = (codes "run", (codes "PACKAGE", home.now) ∷ [])
-words_of_line (Adopt home log source beside options) = (codes "adopt", (codes "PACKAGE", home.now) ∷ [])
+words_of_line (Adopt home log source beside adoption) = (codes "adopt", (codes "PACKAGE", home.now) ∷ [])
 words_of_line (ListNames home log) = (codes "list", (codes "PACKAGE", home.now) ∷ [])
-words_of_line (Show file log parts) = (codes "show", (codes "FILE", file.now) ∷ [])
-words_of_line (Check file log) = (codes "check", (codes "FILE", file.now) ∷ [])
-words_of_line (Export file log folder) = (codes "export", (codes "FILE", file.now) ∷ (codes "FOLDER", folder.now) ∷ [])
-words_of_line (Get file log name summary) = (codes "get", (codes "FILE", file.now) ∷ (codes "NAME", name.now) ∷ [])
+words_of_line (Show file log parts pages) = (codes "show", (codes "FILE", file.now) ∷ [])
+words_of_line (Check file log pages) = (codes "check", (codes "FILE", file.now) ∷ [])
+words_of_line (Export file log folder pages) = (codes "export", (codes "FILE", file.now) ∷ (codes "FOLDER", folder.now) ∷ [])
+words_of_line (Get file log name summary pages) = (codes "get", (codes "FILE", file.now) ∷ (codes "NAME", name.now) ∷ [])
 words_of_line (Set home log name value summary) = (codes "set", (codes "PACKAGE", home.now) ∷ (codes "NAME", name.now) ∷ (codes "VALUE", value.now) ∷ [])
 words_of_line (Unset home log name summary) = (codes "unset", (codes "PACKAGE", home.now) ∷ (codes "NAME", name.now) ∷ [])
 words_of_line (Extract file log stream to) = (codes "extract", (codes "FILE", file.now) ∷ (codes "STREAM", stream.now) ∷ (codes "PATH", to.now) ∷ [])
@@ -44,14 +45,24 @@ AreAsked parts rows = (option_map (λ s. s.now) parts.table ≡ first_of (codes 
     × (parts.summary ≡ is_set (first_of (codes "summary") rows)) × (parts.streams ≡ is_set (first_of (codes "streams") rows))
     × (parts.tree ≡ is_set (first_of (codes "tree") rows))
 
+-- these code pages were asked for, by options of these names
+abbrev pub ArePages : Pages → Text → Text → List Row → Type 0
+ArePages pages texts summary rows = (option_map (λ s. s.now) pages.texts ≡ first_of texts rows) × (option_map (λ s. s.now) pages.summary ≡ first_of summary rows)
+
+-- and these, of a package that is only read
+abbrev pub AreReadPages : Pages → List Row → Type 0
+AreReadPages pages rows = ArePages pages (codes "codepage") (codes "summary-codepage") rows
+
+-- so a package is adopted
+abbrev pub IsAdoption : Adoption → List Row → Type 0
+IsAdoption adoption rows = (adoption.validation ≡ is_set (first_of (codes "validation") rows)) × (adoption.in_place ≡ is_set (first_of (codes "in-place") rows))
+    × (adoption.utf8 ≡ is_set (first_of (codes "to-utf8") rows))
+    × ArePages adoption.pages (codes "from-codepage") (codes "from-summary-codepage") rows
+
 -- so commands are run
 abbrev pub AreOptions : RunOptions → List Row → Type 0
 AreOptions options rows = (options.quiet ≡ is_set (first_of (codes "quiet") rows)) × (options.stop ≡ is_set (first_of (codes "stop") rows))
     × (options.all_or_nothing ≡ is_set (first_of (codes "all-or-nothing") rows))
-
--- so a package is adopted
-abbrev pub AreAdoptions : AdoptOptions → List Row → Type 0
-AreAdoptions options rows = (options.validation ≡ is_set (first_of (codes "validation") rows)) × (options.in_place ≡ is_set (first_of (codes "in-place") rows))
 
 -- which log is named: none, one, or two
 pub data Named : Type 0 where
@@ -93,13 +104,13 @@ abbrev pub AsksFor : Line → List Row → Type 0
 AsksFor (Create home log) rows = IsNamedIn log (first_of (codes "LOG") rows) rows
 AsksFor (Recover home log) rows = IsNamedIn log (first_of (codes "LOG") rows) rows
 AsksFor (ListNames home log) rows = IsNamedIn log (first_of (codes "LOG") rows) rows
-AsksFor (Adopt home log source beside options) rows = IsNamedIn log None rows × IsReadLog beside (codes "source-log") rows × IsReadLog source (codes "SOURCE") rows × AreAdoptions options rows
+AsksFor (Adopt home log source beside adoption) rows = IsNamedIn log None rows × IsReadLog beside (codes "source-log") rows × IsReadLog source (codes "SOURCE") rows × IsAdoption adoption rows
 AsksFor (Run home log commands options) rows = let first = first_of (codes "COMMANDS") rows in let last = first_of (codes "LAST") rows in
     (Some commands.now ≡ commands_among first last) × IsNamedIn log (log_among first last) rows × AreOptions options rows
-AsksFor (Show file log parts) rows = IsReadLog log (codes "log") rows × AreAsked parts rows
-AsksFor (Check file log) rows = IsReadLog log (codes "log") rows
-AsksFor (Export file log folder) rows = IsReadLog log (codes "log") rows
-AsksFor (Get file log name summary) rows = IsReadLog log (codes "log") rows × (summary ≡ is_set (first_of (codes "summary") rows))
+AsksFor (Show file log parts pages) rows = IsReadLog log (codes "log") rows × AreAsked parts rows × AreReadPages pages rows
+AsksFor (Check file log pages) rows = IsReadLog log (codes "log") rows × AreReadPages pages rows
+AsksFor (Export file log folder pages) rows = IsReadLog log (codes "log") rows × AreReadPages pages rows
+AsksFor (Get file log name summary pages) rows = IsReadLog log (codes "log") rows × (summary ≡ is_set (first_of (codes "summary") rows)) × AreReadPages pages rows
 AsksFor (Set home log name value summary) rows = IsNamedIn log None rows × (summary ≡ is_set (first_of (codes "summary") rows))
 AsksFor (Unset home log name summary) rows = IsNamedIn log None rows × (summary ≡ is_set (first_of (codes "summary") rows))
 AsksFor (Extract file log stream to) rows = IsReadLog log (codes "log") rows

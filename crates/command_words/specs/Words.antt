@@ -36,12 +36,20 @@ run = with_rule (with_rule run_quiet (flag (codes "stop"))) (flag (codes "all-or
 abbrev pub with_two : App → Text → Text → App
 with_two app first second = with_rule (with_rule app (path first)) (path second)
 
+-- the number of a code page behind an option
+abbrev pub page_option : Text → Rule
+page_option id = record (new_rule id) { long = Some id; value_names = 1 }
+
+-- a word with the pages by which the texts of tables and those of the summary are read
+abbrev pub by_pages : App → App
+by_pages app = with_rule (with_rule app (page_option (codes "codepage"))) (page_option (codes "summary-codepage"))
+
 -- the words on one property, or with a flag on one field of the summary, with the log
 abbrev pub or_summary : App → App
 or_summary app = with_rule (with_rule app (flag (codes "summary"))) log_option
 
 abbrev pub property_got : App
-property_got = or_summary (with_two (new_app (codes "get")) (codes "FILE") (codes "NAME"))
+property_got = by_pages (or_summary (with_two (new_app (codes "get")) (codes "FILE") (codes "NAME")))
 
 abbrev pub property_set : App
 property_set = or_summary (with_rule (with_two (new_app (codes "set")) (codes "PACKAGE") (codes "NAME")) (path (codes "VALUE")))
@@ -65,10 +73,14 @@ source_log_option = record (new_rule (codes "source-log")) { long = Some (codes 
 abbrev pub source_logged : App
 source_logged = with_rule sourced source_log_option
 
-abbrev pub adopted : App
-adopted = with_rule (with_rule source_logged (flag (codes "validation"))) (flag (codes "in-place"))
+abbrev pub validated : App
+validated = with_rule (with_rule source_logged (flag (codes "validation"))) (flag (codes "in-place"))
 
--- the word that shows a package: its path, a table's name, which may be missing, three flags, and its log
+-- with a flag for UTF-8, and the pages of the package that is read
+abbrev pub adopted : App
+adopted = with_rule (with_rule (with_rule validated (flag (codes "to-utf8"))) (page_option (codes "from-codepage"))) (page_option (codes "from-summary-codepage"))
+
+-- the word that shows a package: its path, a table's name, which may be missing, three flags, its log, and two pages
 abbrev pub table_shown : App
 table_shown = with_rule (with_rule (new_app (codes "show")) (path (codes "FILE"))) (new_rule (codes "TABLE"))
 
@@ -82,15 +94,15 @@ abbrev pub tree_shown : App
 tree_shown = with_rule streams_shown (flag (codes "tree"))
 
 abbrev pub shown : App
-shown = with_rule tree_shown log_option
+shown = by_pages (with_rule tree_shown log_option)
 
--- the word that writes a package to a folder: the paths of both, and its log
+-- the word that writes a package to a folder: the paths of both, its log, and two pages
 abbrev pub exported : App
-exported = with_rule (with_rule (with_rule (new_app (codes "export")) (path (codes "FILE"))) (path (codes "FOLDER"))) log_option
+exported = by_pages (with_rule (with_rule (with_rule (new_app (codes "export")) (path (codes "FILE"))) (path (codes "FOLDER"))) log_option)
 
--- the word that judges a package: its path and its log
+-- the word that judges a package: its path, its log, and two pages
 abbrev pub checked : App
-checked = with_rule (with_rule (new_app (codes "check")) (path (codes "FILE"))) log_option
+checked = by_pages (with_rule (with_rule (new_app (codes "check")) (path (codes "FILE"))) log_option)
 
 -- no word yet: one must be there, or a wish for help or version, and the program's own name isn't among the words
 abbrev pub bare : App

@@ -4,4 +4,4 @@
 mod line;
 mod words;
 
-pub use line::{AdoptOptions, Line, Log, Parts, RunOptions, read_words};
+pub use line::{Adoption, Line, Log, Pages, Parts, RunOptions, read_words};

@@ -2,7 +2,7 @@
 ghost use Rattle.std.specs.Prelude.{◌≡◌, IfOk, IfErr, IfSome, codes, option_map, map, string_bytes, true};
 ghost use Rattle.clap.specs.Words.{first_of, found_of, kind_of, rows_of, subcommand_rows_of, takes};
 ghost use Rattle.command_words.specs.Words.{msidb};
-ghost use Rattle.command_words.specs.Lines.{words_of_line, is_set, named, named_by, AreIn, AreAdoptions, AreAsked, AreOptions, AsksFor, IsNamedIn, SaidIn, HasSaid};
+ghost use Rattle.command_words.specs.Lines.{words_of_line, is_set, named, named_by, AreIn, AreAsked, AreOptions, ArePages, AreReadPages, AsksFor, IsAdoption, IsNamedIn, SaidIn, HasSaid};
 
 use crate::words::matches;
 use clap::error::ErrorKind;
@@ -33,6 +33,28 @@ pub struct Parts<'a> {
     pub tree: bool,
 }
 
+/// The code pages by which texts are read, as they are given: of tables, and of the summary.
+#[derive(Clone, Copy, Debug, PartialEq, Eq)]
+pub struct Pages<'a> {
+    /// That of the texts of tables.
+    pub texts: Option<&'a str>,
+    /// That of the texts of the summary.
+    pub summary: Option<&'a str>,
+}
+
+/// How a package is adopted.
+#[derive(Clone, Copy, Debug, PartialEq, Eq)]
+pub struct Adoption<'a> {
+    /// It gets an empty `_Validation`, where it has none.
+    pub validation: bool,
+    /// It is put right where it lies.
+    pub in_place: bool,
+    /// Its texts are put in UTF-8.
+    pub utf8: bool,
+    /// The pages by which they are read then.
+    pub pages: Pages<'a>,
+}
+
 /// How commands are run.
 #[derive(Clone, Copy, Debug, PartialEq, Eq)]
 pub struct RunOptions {
@@ -44,15 +66,6 @@ pub struct RunOptions {
     pub all_or_nothing: bool,
 }
 
-/// How a package is adopted.
-#[derive(Clone, Copy, Debug, PartialEq, Eq)]
-pub struct AdoptOptions {
-    /// It gets an empty `_Validation`, where it has none.
-    pub validation: bool,
-    /// It is put right where it lies.
-    pub in_place: bool,
-}
-
 /// What the program is asked for: the path of a package with its log, and of a command file; or the path of a file, and what is shown
 /// of it.
 #[derive(Clone, Copy, Debug, PartialEq, Eq)]
@@ -61,7 +74,7 @@ pub enum Line<'a> {
     Create(&'a str, Log<'a>),
     /// Make a package of one of any maker, whose texts are counted otherwise, with the log of that one, where it is named; or put one right
     /// where it lies, which names no other.
-    Adopt(&'a str, Log<'a>, Option<&'a str>, Option<&'a str>, AdoptOptions),
+    Adopt(&'a str, Log<'a>, Option<&'a str>, Option<&'a str>, Adoption<'a>),
     /// Finish a commit.
     Recover(&'a str, Log<'a>),
     /// Run the commands of a file.
@@ -69,13 +82,13 @@ pub enum Line<'a> {
     /// List the tables and the streams.
     List(&'a str, Log<'a>),
     /// Show parts of a package of any maker, with its log, where it is named.
-    Show(&'a str, Option<&'a str>, Parts<'a>),
+    Show(&'a str, Option<&'a str>, Parts<'a>, Pages<'a>),
     /// Tell which rules a package of any maker breaks.
-    Check(&'a str, Option<&'a str>),
+    Check(&'a str, Option<&'a str>, Pages<'a>),
     /// Write a package of any maker to a new folder.
-    Export(&'a str, Option<&'a str>, &'a str),
+    Export(&'a str, Option<&'a str>, &'a str, Pages<'a>),
     /// Tell the property of a name, or whether it is a field of the summary.
-    Get(&'a str, Option<&'a str>, &'a str, bool),
+    Get(&'a str, Option<&'a str>, &'a str, bool, Pages<'a>),
     /// Give the property of a name a value, or whether it is a field of the summary.
     Set(&'a str, Log<'a>, &'a str, &'a str, bool),
     /// Take the property of a name away, or whether it is a field of the summary.
@@ -117,18 +130,21 @@ fn line_of<'a>(name: &str, paths: &ArgMatches<'a>) -> Option<Line<'a>>
             let file = path(paths, "FILE")?;
             let parts = parts_in(paths);
             let log = path(paths, "log");
-            Some(Line::Show(file, log, parts))
+            let pages = read_pages_in(paths);
+            Some(Line::Show(file, log, parts, pages))
         }
         "check" => {
             let file = path(paths, "FILE")?;
             let log = path(paths, "log");
-            Some(Line::Check(file, log))
+            let pages = read_pages_in(paths);
+            Some(Line::Check(file, log, pages))
         }
         "export" => {
             let file = path(paths, "FILE")?;
             let folder = path(paths, "FOLDER")?;
             let log = path(paths, "log");
-            Some(Line::Export(file, log, folder))
+            let pages = read_pages_in(paths);
+            Some(Line::Export(file, log, folder, pages))
         }
         "run" => line_of_run(paths),
         "adopt" => line_of_adoption(paths),
@@ -198,7 +214,8 @@ fn line_of_get<'a>(paths: &ArgMatches<'a>) -> Option<Line<'a>>
     let name = path(paths, "NAME")?;
     let log = path(paths, "log");
     let summary = has_flag(paths, "summary");
-    Some(Line::Get(file, log, name, summary))
+    let pages = read_pages_in(paths);
+    Some(Line::Get(file, log, name, summary, pages))
 }
 
 // The line of the word that sets a property.
@@ -264,16 +281,35 @@ fn line_of_adoption<'a>(paths: &ArgMatches<'a>) -> Option<Line<'a>>
     let source = path(paths, "SOURCE");
     let log = log_in(None, paths);
     let beside = path(paths, "source-log");
-    let options = adoption_in(paths);
-    Some(Line::Adopt(package, log, source, beside, options))
+    let adoption = adoption_in(paths);
+    Some(Line::Adopt(package, log, source, beside, adoption))
 }
 
-fn adoption_in(paths: &ArgMatches<'_>) -> AdoptOptions
-    ensures { AreAdoptions result (rows_of (found_of paths.now)) }
+fn adoption_in<'a>(paths: &ArgMatches<'a>) -> Adoption<'a>
+    ensures { IsAdoption result (rows_of (found_of paths.now)) }
 {
-    AdoptOptions {
+    Adoption {
         validation: has_flag(paths, "validation"),
         in_place: has_flag(paths, "in-place"),
+        utf8: has_flag(paths, "to-utf8"),
+        pages: pages_in(paths, "from-codepage", "from-summary-codepage"),
+    }
+}
+
+// The code pages by which a package that is only read is shown.
+fn read_pages_in<'a>(paths: &ArgMatches<'a>) -> Pages<'a>
+    ensures { AreReadPages result (rows_of (found_of paths.now)) }
+{
+    pages_in(paths, "codepage", "summary-codepage")
+}
+
+// Those that options of these names give.
+fn pages_in<'a>(paths: &ArgMatches<'a>, texts: &str, summary: &str) -> Pages<'a>
+    ensures { ArePages result texts.now summary.now (rows_of (found_of paths.now)) }
+{
+    Pages {
+        texts: path(paths, texts),
+        summary: path(paths, summary),
     }
 }
 

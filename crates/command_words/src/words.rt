@@ -1,7 +1,7 @@
 //! The words that the program takes.
 ghost use Rattle.std.specs.Prelude.{◌≡◌, codes, true, false, IfOk, IfErr, map, string_bytes};
 ghost use Rattle.clap.specs.Words.{app_of, kind_of, new_app, new_rule, rule_of, takes, with_rule, with_subcommand, HasMatchesOf};
-ghost use Rattle.command_words.specs.Words.{adopted, bare, checked, exported, flag, log_option, msidb, on_package, path, property_got, property_set, property_unset, run, run_logged, run_quiet, or_summary, stream_moved, with_adopt, with_get, with_two, with_unset, shown, source_log_option, source_logged, sourced, streams_shown, summary_shown, table_shown, tree_shown, two_paths, with_files, with_log, with_looks, without_run};
+ghost use Rattle.command_words.specs.Words.{adopted, bare, by_pages, checked, exported, flag, log_option, msidb, on_package, page_option, path, property_got, property_set, property_unset, run, run_logged, run_quiet, or_summary, stream_moved, with_adopt, with_get, with_two, with_unset, shown, source_log_option, source_logged, sourced, streams_shown, summary_shown, table_shown, tree_shown, two_paths, validated, with_files, with_log, with_looks, without_run};
 
 use clap::error::ErrorKind;
 use clap::{Arg, ArgAction, ArgMatches, Command, Error};
@@ -76,6 +76,27 @@ fn source_log_behind<'a>(alloc: Global) -> Arg<'a>
         .long("source-log")
         .value_name("LOG")
         .help("The log of the other package, if it isn't its path with `.log` behind it")
+}
+
+// An option that gives the number of a code page.
+fn page_behind<'a>(alloc: Global, id: &'a str, help: &'a str) -> Arg<'a>
+    ensures rule { rule_of result ≡ page_option id.entry.now }
+    ensures local { result.global ≡ false }
+{
+    Arg::new(alloc, id).long(id).value_name("N").help(help)
+}
+
+// A word with the code pages by which texts are read.
+fn by_pages<'a>(alloc: Global, command: Command<'a>) -> Result<Command<'a>, AllocError>
+    ensures { IfOk result (λ c. app_of c ≡ by_pages (app_of command.entry)) }
+{
+    let texts = page_behind(
+        alloc,
+        "codepage",
+        "The code page by which texts of tables are read, if it isn't the one that the package names: 1252, 932, 65001 ..",
+    );
+    let summary = page_behind(alloc, "summary-codepage", "The same of the summary's texts");
+    with_two(command, texts, summary)
 }
 
 // A word with the paths of a package and of its log.
@@ -255,7 +276,8 @@ fn with_file<'a>(alloc: Global) -> Result<Command<'a>, AllocError>
     ensures { IfOk result (λ c. app_of c ≡ shown) }
 {
     let command = with_tree(alloc)?;
-    add(command, log_behind(alloc))
+    let logged = add(command, log_behind(alloc))?;
+    by_pages(alloc, logged)
 }
 
 // What stands behind the help of the word that judges a package.
@@ -274,7 +296,8 @@ fn with_judged<'a>(alloc: Global) -> Result<Command<'a>, AllocError>
         help_on_check(),
     );
     let first = add(command, needed_path(alloc, "FILE", "The package"))?;
-    add(first, log_behind(alloc))
+    let logged = add(first, log_behind(alloc))?;
+    by_pages(alloc, logged)
 }
 
 // What stands behind the help of the word that exports a package.
@@ -299,7 +322,8 @@ fn with_folder<'a>(alloc: Global) -> Result<Command<'a>, AllocError>
         "The folder, which is made and must not be there",
     );
     let second = add(first, folder)?;
-    add(second, log_behind(alloc))
+    let logged = add(second, log_behind(alloc))?;
+    by_pages(alloc, logged)
 }
 
 // What stands behind the help of the word that adopts a package.
@@ -343,8 +367,8 @@ fn with_source_log<'a>(alloc: Global) -> Result<Command<'a>, AllocError>
 }
 
 // The same with a flag for an empty _Validation, and one for a package that is put right where it lies.
-fn with_adoption<'a>(alloc: Global) -> Result<Command<'a>, AllocError>
-    ensures { IfOk result (λ c. app_of c ≡ adopted) }
+fn with_validation<'a>(alloc: Global) -> Result<Command<'a>, AllocError>
+    ensures { IfOk result (λ c. app_of c ≡ validated) }
 {
     let command = with_source_log(alloc)?;
     let validation = flag_of(
@@ -359,6 +383,30 @@ fn with_adoption<'a>(alloc: Global) -> Result<Command<'a>, AllocError>
     );
     let copied = add(command, validation)?;
     add(copied, in_place)
+}
+
+// The same with texts in UTF-8.
+fn with_adoption<'a>(alloc: Global) -> Result<Command<'a>, AllocError>
+    ensures { IfOk result (λ c. app_of c ≡ adopted) }
+{
+    let command = with_validation(alloc)?;
+    let utf8 = flag_of(
+        alloc,
+        "to-utf8",
+        "Texts in UTF-8, of whatever code page they are in; so they can be changed",
+    );
+    let first = add(command, utf8)?;
+    let texts = page_behind(
+        alloc,
+        "from-codepage",
+        "With --to-utf8 the code page by which texts of tables are read, if it isn't the one that the other package names",
+    );
+    let summary = page_behind(
+        alloc,
+        "from-summary-codepage",
+        "The same of the summary's texts",
+    );
+    with_two(first, texts, summary)
 }
 
 // A word with two paths or names.
@@ -402,7 +450,8 @@ fn with_property_got<'a>(alloc: Global) -> Result<Command<'a>, AllocError>
     let file = needed_path(alloc, "FILE", "The package of any maker");
     let name = needed_path(alloc, "NAME", "The name of the property");
     let named = with_two(command, file, name)?;
-    or_summary(alloc, named)
+    let found = or_summary(alloc, named)?;
+    by_pages(alloc, found)
 }
 
 // The word that sets one, but for its flag and log.

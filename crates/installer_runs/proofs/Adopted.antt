@@ -13,7 +13,8 @@ use Rattle.installer.specs.CrashSurvival.{SurvivesCrash}
 use Rattle.installer.specs.Refusals.{IsFreshFault}
 use Rattle.installer.specs.SessionStates.{BegunCommit}
 use Rattle.installer_runs.specs.Adopting.{AdoptionSurvivesCrash, AdoptsFrom, AdoptsOn, HoldsUncounted, IsAdoptionRefusal, IsOfAdopted, IsTooLongToAdopt}
-use Rattle.msi.specs.Committing.{BytesHoldPackage}
+use Rattle.msi.proofs.OpenAgain.{held_rest}
+use Rattle.msi.specs.Committing.{BytesHoldPackage, BytesKeepPackage}
 use Rattle.msi_adopting.proofs.Whole.{longer}
 use Rattle.msi_adopting.specs.Adopted.{BytesHoldSoundPackage, HasLongText, IsAdopted, IsPoolTooLong, IsUnadopted}
 use Rattle.msi_adopting.specs.InPlace.{BytesHoldUncounted}
@@ -37,6 +38,10 @@ none_left Of never (m ∷ ms) all = absurd (never m (all 0 m (omega arith)))
 module _ (letters : CaseTable) where
   pub held_sound : (bytes : List ℕ) (P : PackageContent) → BytesHoldSoundPackage letters bytes P → BytesHoldPackage letters bytes P
   held_sound bytes P h = record { usable = h.usable; container = h.container; tree = h.tree; means = h.means; packs = h.packs; sound = h.sound }
+
+  -- so they keep it, whatever its texts
+  pub keeps_sound : (bytes : List ℕ) (P : PackageContent) → BytesHoldSoundPackage letters bytes P → BytesKeepPackage letters bytes P
+  keeps_sound bytes P h = (held_rest letters bytes P (held_sound bytes P h), λ fit. held_sound bytes P h)
 
   one_package : (bytes : List ℕ) (P Q : PackageContent) → BytesHoldSoundPackage letters bytes P → BytesHoldSoundPackage letters bytes Q → P ≡ Q
   one_package bytes P Q h k =

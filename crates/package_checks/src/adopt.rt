@@ -3,22 +3,25 @@ ghost use Rattle.std.specs.Prelude.{◌≤◌, IfErr};
 
 use crate::check::write_defects;
 use crate::packages::{adopted_at, defects_at, validate};
+use crate::places::Reading;
+use crate::utf8::check_texts;
 use cfb::MemoryMedium;
 use cfb_medium::Error;
 use msi::{Defect, Package};
 use package_files::{Names, Output, check_shown, status_of_error, tell_failure};
-use package_views::tell_why_refused;
+use package_views::{Pages, tell_why_refused};
 use std::fs::File;
 use std::io::Write;
 use std::rt::Files;
 
-/// A copy in memory of a package, as a recovery would leave it, with right counts, which is sound, and with an empty `_Validation` where it is to have one
-/// and has none. Where there can be none the status is given and what was found is told: 1 where the package breaks further rules, a
-/// line for each; 3 where the file is no package or can't be read, or `_Validation` can't be added, which is told with the file's name,
+/// A copy in memory of a package, as a recovery would leave it, with right counts, which is sound, and with an empty `_Validation` where it is
+/// to have one and has none; where pages are given, with its texts in UTF-8, as these pages read them. Where there can be none the status is given and what was found is told: 1 where the package breaks further rules, or
+/// its texts can't be put in UTF-8 without a loss, a line for each; 3 where the file is no package or can't be read, or `_Validation` can't be added, which is told with the file's name,
 /// and where nothing can be written. The file is only read.
 pub fn adopted_package<'a, R: Files<File = File> + AllocGlobal, O: Write, E: Write>(
     rt: &R,
     names: &'a Names,
+    pages: Option<Pages>,
     has_validation: bool,
     out: &'a mut O,
     err: &'a mut E,
@@ -29,7 +32,12 @@ pub fn adopted_package<'a, R: Files<File = File> + AllocGlobal, O: Write, E: Wri
         tell_failure(names, failure, err);
         return Err(3);
     }
-    let mut package = match counted_package(rt, names, out, err) {
+    if let Some(pages) = pages {
+        if let Err(status) = check_texts(rt, names, pages, out, err) {
+            return Err(status);
+        }
+    }
+    let mut package = match counted_package(rt, names, pages, out, err) {
         Ok(package) => package,
         Err(status) => return Err(status),
     };
@@ -46,26 +54,27 @@ pub fn adopted_package<'a, R: Files<File = File> + AllocGlobal, O: Write, E: Wri
     }
 }
 
-// The same as it is.
+// The same without an empty `_Validation`.
 fn counted_package<R: Files<File = File> + AllocGlobal, O: Write, E: Write>(
     rt: &R,
     names: &Names,
+    pages: Option<Pages>,
     out: &mut O,
     err: &mut E,
 ) -> Result<Package<MemoryMedium>, u8>
     ensures { IfErr result (λ status. status ≤ 3) }
 {
-    let found = match defects_at(rt, names) {
+    let found = match defects_at(rt, names, pages) {
         Ok(found) => found,
         Err(error) => {
             tell_why_refused(rt, names, error, err);
             return Err(3);
         }
     };
-    match adopted_at(rt, names) {
+    match adopted_at(rt, names, pages) {
         Ok(package) => Ok(package),
         Err(Error::InvalidData) if !found.is_empty() => Err(tell_defects(
-            rt, names, &found, out, err,
+            rt, names, pages, &found, out, err,
         )),
         Err(error) => {
             tell_why_refused(rt, names, error, err);
@@ -86,8 +95,8 @@ pub fn tell_unadopted<R: Files<File = File> + AllocGlobal, O: Write, E: Write>(
     ensures { result ≤ 3 }
 {
     if error == Error::InvalidData {
-        if let Ok(found) = defects_at(rt, names) {
-            return tell_defects(rt, names, &found, out, err);
+        if let Ok(found) = defects_at(rt, names, None) {
+            return tell_defects(rt, names, None, &found, out, err);
         }
     }
     tell_why_refused(rt, names, error, err);
@@ -98,14 +107,25 @@ pub fn tell_unadopted<R: Files<File = File> + AllocGlobal, O: Write, E: Write>(
 fn tell_defects<R: Files<File = File> + AllocGlobal, O: Write, E: Write>(
     rt: &R,
     names: &Names,
+    pages: Option<Pages>,
     found: &[Defect],
     out: &mut O,
     err: &mut E,
 ) -> u8
     ensures { result ≤ 3 }
 {
+    let reading = match pages {
+        Some(_) => Reading {
+            judged: pages,
+            told: None,
+        },
+        None => Reading {
+            judged: None,
+            told: Some(Pages::as_named()),
+        },
+    };
     let mut out = Output::new(out);
-    match write_defects(rt, names, found, &mut out) {
+    match write_defects(rt, names, reading, found, &mut out) {
         Ok(()) => 1,
         Err(error) => status_of_error(names.named(), error, out.broken(), 1, err),
     }

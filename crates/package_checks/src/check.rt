@@ -2,17 +2,17 @@
 ghost use Rattle.std.specs.Prelude.{◌≤◌};
 
 use crate::packages::defects_at;
-use crate::places::write_places;
+use crate::places::{Reading, write_places};
 use cfb_medium::Error;
 use msi::Defect;
 use package_files::{Names, Output, check_shown, status_of_error, tell_failure};
-use package_views::tell_why_refused;
+use package_views::{Pages, shown_by, tell_foreign_pages, tell_why_refused};
 use std::fs::File;
 use std::io::Write;
 use std::rt::Files;
 
 // What is said of a rule that isn't kept.
-fn text_of(defect: Defect) -> &'static str {
+pub(crate) fn text_of(defect: Defect) -> &'static str {
     match defect {
         Defect::Container =>
             "container: the compound file isn't sound: a sector serves two uses, one that is used is free or missing, or a stream isn't whole",
@@ -37,25 +37,34 @@ fn text_of(defect: Defect) -> &'static str {
 pub(crate) fn write_defects<R: Files<File = File> + AllocGlobal, O: Write>(
     rt: &R,
     names: &Names,
+    reading: Reading,
     found: &[Defect],
     out: &mut Output<'_, O>,
 ) -> Result<(), Error> {
     for defect in found {
         out.line(text_of(*defect))?;
-        write_places(rt, names, *defect, out)?;
+        write_places(rt, names, reading, *defect, out)?;
     }
     Ok(())
+}
+
+// Tells which parts of a package that couldn't be opened are in code pages that the library lacks.
+fn tell_pages<R: Files<File = File> + AllocGlobal, E: Write>(rt: &R, names: &Names, err: &mut E) {
+    if let Ok((_shown, reread)) = shown_by(rt, names, Pages::as_named()) {
+        tell_foreign_pages(names.named(), &reread, err);
+    }
 }
 
 /// Tells which rules a package breaks, which is only read, as a recovery would leave it: a line for each, none where it is sound. Behind the line stand, with
 /// two blanks in front, texts of pool and summary that their code page doesn't give back, texts that no cell uses, tables with a wrong name,
 /// columns of `_Validation` that aren't as they must be, objects that are out of place, tables whose rows can't be read, and texts that
-/// aren't counted right, where it is the rule on these. The status is 0 where it is sound, 1 where it isn't, 3 where the file is no package
+/// aren't counted right, where it is the rule on these. Texts are told as these pages read them; by them nothing is judged. The status is 0 where it is sound, 1 where it isn't, 3 where the file is no package
 /// or can't be read, or its log is malformed, which is told with the file's name, and where nothing can be written; where nobody reads the
 /// answers any more it is 0 or 1 all the same.
 pub fn check_package<'a, R: Files<File = File> + AllocGlobal, O: Write, E: Write>(
     rt: &R,
     names: &'a Names,
+    pages: Pages,
     out: &'a mut O,
     err: &'a mut E,
 ) -> u8
@@ -65,15 +74,20 @@ pub fn check_package<'a, R: Files<File = File> + AllocGlobal, O: Write, E: Write
         tell_failure(names, failure, err);
         return 3;
     }
-    let found = match defects_at(rt, names) {
+    let found = match defects_at(rt, names, None) {
         Ok(found) => found,
         Err(error) => {
             tell_why_refused(rt, names, error, err);
+            tell_pages(rt, names, err);
             return 3;
         }
     };
+    let reading = Reading {
+        judged: None,
+        told: Some(pages),
+    };
     let mut out = Output::new(out);
-    match write_defects(rt, names, &found, &mut out) {
+    match write_defects(rt, names, reading, &found, &mut out) {
         Ok(()) if found.is_empty() => 0,
         Ok(()) => 1,
         Err(error) => status_of_error(names.named(), error, out.broken(), 1, err),

@@ -7,6 +7,7 @@ mod columns;
 mod containers;
 mod packages;
 mod places;
+mod utf8;
 
 pub use adopt::{adopted_package, tell_unadopted};
 pub use check::check_package;

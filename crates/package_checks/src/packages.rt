@@ -16,19 +16,35 @@ use msi_store::read_parts;
 use msi_tables::Table;
 use msi_texts::decode;
 use package_files::{Names, Shown, shown_at};
-use package_views::container_at;
+use package_views::{Pages, container_of, shown_by};
 use serde_json::Value as Json;
 use std::alloc::{AllocError, Global};
 use std::fs::File;
 use std::rc::Rc;
 use std::rt::Files;
 
-/// The rules of a sound package that one breaks.
+/// The file of a package as it is, or with its texts in UTF-8, of these pages.
+pub(crate) fn source_at<R: Files<File = File> + AllocGlobal>(
+    rt: &R,
+    names: &Names,
+    pages: Option<Pages>,
+) -> Result<Shown, Error> {
+    match pages {
+        Some(pages) => {
+            let (shown, _reread) = shown_by(rt, names, pages)?;
+            Ok(shown)
+        }
+        None => shown_at(rt, names),
+    }
+}
+
+/// The rules of a sound package that one breaks, as it is, or with its texts in UTF-8, of these pages.
 pub(crate) fn defects_at<R: Files<File = File> + AllocGlobal>(
     rt: &R,
     names: &Names,
+    pages: Option<Pages>,
 ) -> Result<Vec<Defect>, Error> {
-    let shown = shown_at(rt, names)?;
+    let shown = source_at(rt, names, pages)?;
     defects_of(rt.alloc(), shown)
 }
 
@@ -47,12 +63,14 @@ pub(crate) struct Looked {
     parts: PackageParts,
 }
 
-/// A package, to be looked through for the places at which it breaks rules.
+/// A package, to be looked through for the places at which it breaks rules, as it is, or with its texts in UTF-8, of these pages.
 pub(crate) fn looked_at<R: Files<File = File> + AllocGlobal>(
     rt: &R,
     names: &Names,
+    pages: Option<Pages>,
 ) -> Result<Looked, Error> {
-    let mut file = container_at(rt, names)?;
+    let shown = source_at(rt, names, pages)?;
+    let mut file = container_of(rt.alloc(), shown)?;
     match parts_of(rt.alloc(), &mut file) {
         Ok(parts) => Ok(Looked { file, parts }),
         Err(error) => Err(error),
@@ -155,12 +173,15 @@ pub(crate) fn quote(alloc: Global, text: &str) -> Result<String, AllocError> {
     Json::String(String::from_str(alloc, text)?).to_string(alloc)
 }
 
-/// A copy in memory of a package, with right counts, which is sound. `InvalidData` where there is none.
+/// A copy in memory of a package, as it is, or with its texts in UTF-8, of these pages, with right counts, which is sound. `InvalidData`
+/// where there is none.
 pub(crate) fn adopted_at<R: Files<File = File> + AllocGlobal>(
     rt: &R,
     names: &Names,
+    pages: Option<Pages>,
 ) -> Result<Package<MemoryMedium>, Error> {
-    let mut file = container_at(rt, names)?;
+    let shown = source_at(rt, names, pages)?;
+    let mut file = container_of(rt.alloc(), shown)?;
     let target = copy_of(rt.alloc(), &mut file)?;
     let package = package_in(rt.alloc(), target)?;
     if package.is_sound() {

@@ -15,17 +15,28 @@ use msi_export::property_name;
 use msi_findings::Miscount;
 use msi_tables::Table;
 use package_files::{Names, Output};
+use package_views::Pages;
 use std::alloc::Global;
 use std::fs::File;
 use std::io::Write;
 use std::rc::Rc;
 use std::rt::Files;
 
+/// How a package is judged, and how its texts are told.
+#[derive(Clone, Copy)]
+pub(crate) struct Reading {
+    /// It is judged as it is, or with its texts in UTF-8, of these pages.
+    pub(crate) judged: Option<Pages>,
+    /// Its texts are told as they are judged, or as these pages read them.
+    pub(crate) told: Option<Pages>,
+}
+
 /// Writes each place at which a package breaks a rule, but that on the summary's sections and that on the rows of `_Tables`.
 /// `Device` where nothing can be written.
 pub(crate) fn write_places<R: Files<File = File> + AllocGlobal, O: Write>(
     rt: &R,
     names: &Names,
+    reading: Reading,
     defect: Defect,
     out: &mut Output<'_, O>,
 ) -> Result<(), Error> {
@@ -37,12 +48,13 @@ pub(crate) fn write_places<R: Files<File = File> + AllocGlobal, O: Write>(
         | Defect::Validation
         | Defect::Objects
         | Defect::Counts => {
-            let mut looked = looked_at(rt, names)?;
+            let mut looked = looked_at(rt, names, reading.judged)?;
+            let told = told_at(rt, names, reading.told)?;
             let mut lines = Lines {
                 alloc: rt.alloc(),
                 out,
             };
-            lines.places(defect, &mut looked)
+            lines.places(defect, &mut looked, told.as_ref())
         }
         Defect::Container => {
             let container = container_at(rt, names)?;
@@ -56,6 +68,18 @@ pub(crate) fn write_places<R: Files<File = File> + AllocGlobal, O: Write>(
     }
 }
 
+// A package with its texts as these pages read them.
+fn told_at<R: Files<File = File> + AllocGlobal>(
+    rt: &R,
+    names: &Names,
+    pages: Option<Pages>,
+) -> Result<Option<Looked>, Error> {
+    match pages {
+        Some(_) => Ok(Some(looked_at(rt, names, pages)?)),
+        None => Ok(None),
+    }
+}
+
 // Where the places are written.
 #[derive(Drop)]
 struct Lines<'a, 'b, O> {
@@ -64,16 +88,21 @@ struct Lines<'a, 'b, O> {
 }
 
 impl<'a, 'b, O: Write> Lines<'a, 'b, O> {
-    // The places at which one of the seven rules is broken.
-    fn places(&mut self, defect: Defect, looked: &mut Looked) -> Result<(), Error> {
+    // The places at which one of the seven rules is broken; texts are told as they stand in the second package, if there is one.
+    fn places(
+        &mut self,
+        defect: Defect,
+        looked: &mut Looked,
+        told: Option<&Looked>,
+    ) -> Result<(), Error> {
         match defect {
-            Defect::PoolTexts => self.unkept_texts(looked),
-            Defect::SummaryTexts => self.unkept_properties(looked),
-            Defect::FreePlaces => self.unused_texts(looked),
+            Defect::PoolTexts => self.unkept_texts(looked, told),
+            Defect::SummaryTexts => self.unkept_properties(looked, told),
+            Defect::FreePlaces => self.unused_texts(looked, told),
             Defect::TableNames => self.misnamed_tables(looked),
             Defect::Validation => self.misshapen_validation(looked),
             Defect::Objects => self.misplaced_objects(looked),
-            _ => self.counts(looked),
+            _ => self.counts(looked, told),
         }
     }
 
@@ -113,19 +142,23 @@ impl<'a, 'b, O: Write> Lines<'a, 'b, O> {
         Ok(())
     }
 
-    // Texts that the code page of the database doesn't give back, as they read under it.
-    fn unkept_texts(&mut self, looked: &mut Looked) -> Result<(), Error> {
+    // Texts that the code page of the database doesn't give back.
+    fn unkept_texts(&mut self, looked: &mut Looked, told: Option<&Looked>) -> Result<(), Error> {
         for place in unkept_texts_of(self.alloc, looked)? {
-            let text = quote(self.alloc, text_at(looked, place))?;
+            let text = quote(self.alloc, text_at(told.unwrap_or(looked), place))?;
             self.line(&format!(in self.alloc; "place {place}, {text}")?)?;
         }
         Ok(())
     }
 
     // So of properties of the summary.
-    fn unkept_properties(&mut self, looked: &mut Looked) -> Result<(), Error> {
+    fn unkept_properties(
+        &mut self,
+        looked: &mut Looked,
+        told: Option<&Looked>,
+    ) -> Result<(), Error> {
         for number in unkept_properties_of(self.alloc, looked)? {
-            let text = quote(self.alloc, property_text(looked, number))?;
+            let text = quote(self.alloc, property_text(told.unwrap_or(looked), number))?;
             let name = property_name(number).unwrap_or("unknown");
             self.line(&format!(in self.alloc; "property {number}, {name}: {text}")?)?;
         }
@@ -151,9 +184,9 @@ impl<'a, 'b, O: Write> Lines<'a, 'b, O> {
     }
 
     // Texts that no cell uses.
-    fn unused_texts(&mut self, looked: &Looked) -> Result<(), Error> {
+    fn unused_texts(&mut self, looked: &Looked, told: Option<&Looked>) -> Result<(), Error> {
         for place in unused_of(self.alloc, looked)? {
-            let text = quote(self.alloc, text_at(looked, place))?;
+            let text = quote(self.alloc, text_at(told.unwrap_or(looked), place))?;
             self.line(&format!(in self.alloc; "place {place}, {text}")?)?;
         }
         Ok(())
@@ -175,11 +208,11 @@ impl<'a, 'b, O: Write> Lines<'a, 'b, O> {
     }
 
     // Tables whose rows can't be read, and texts that aren't counted right.
-    fn counts(&mut self, looked: &mut Looked) -> Result<(), Error> {
+    fn counts(&mut self, looked: &mut Looked, told: Option<&Looked>) -> Result<(), Error> {
         let tables = unread_of(self.alloc, looked)?;
         self.tables(&tables, ": its rows can't be read")?;
         match miscounts_of(self.alloc, looked) {
-            Ok(found) => self.miscounts(looked, &found),
+            Ok(found) => self.miscounts(told.unwrap_or(looked), &found),
             Err(Error::InvalidData) if tables.is_empty() => self.line(UNCOUNTED),
             Err(Error::InvalidData) => Ok(()),
             Err(error) => Err(error),

@@ -11,6 +11,7 @@ mod names;
 mod output;
 mod shown;
 mod troubles;
+mod unwritten;
 
 pub use device::{
     Faults, Fresh, PackageDevice, PackageFile, create_files, cut_log, open_files, remove_fresh,
@@ -23,3 +24,4 @@ pub use names::{Names, check_one_name, names_of};
 pub use output::{Output, status_of_error, tell_unwritten};
 pub use shown::{Shown, check_shown, shown_at};
 pub use troubles::{Trouble, tell, tell_error, tell_part, tell_trouble};
+pub use unwritten::UnwrittenDevice;

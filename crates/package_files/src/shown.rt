@@ -4,16 +4,18 @@ use crate::logs::{Found, look_at_log};
 use crate::looks::trouble_at;
 use crate::names::Names;
 use crate::troubles::Trouble;
+use crate::unwritten::UnwrittenDevice;
 use cfb_medium::Error;
 use file_device::FileDevice;
+use staged::Staged;
 use staged_view::View;
 use std::alloc::Global;
 use std::fs::File;
 use std::io::Write;
 use std::rt::Files;
 
-/// The file of a package as a recovery would leave it, by its two files, which are only read.
-pub type Shown = View<FileDevice>;
+/// The file of a package as a recovery would leave it, by its two files, which are only read: what is changed of it stays in memory.
+pub type Shown = Staged<UnwrittenDevice>;
 
 /// Opens a package to be read. `InvalidData` for a malformed log; else `NotFound`, `Device` or `Memory`.
 pub fn shown_at<R: Files<File = File> + AllocGlobal>(
@@ -33,7 +35,14 @@ pub fn shown_at<R: Files<File = File> + AllocGlobal>(
 // A function of its own, since what is told of the call costs time wherever it is seen.
 fn view_of(alloc: Global, device: FileDevice) -> Result<Shown, Error> {
     match View::new(alloc, device) {
-        Ok(view) => Ok(view),
+        Ok(view) => unwritten(alloc, view),
+        Err((_device, error)) => Err(error),
+    }
+}
+
+fn unwritten(alloc: Global, view: View<FileDevice>) -> Result<Shown, Error> {
+    match Staged::new(alloc, UnwrittenDevice::new(view)) {
+        Ok(shown) => Ok(shown),
         Err((_device, error)) => Err(error),
     }
 }

@@ -2,8 +2,10 @@
 ghost use Rattle.std.specs.Prelude.{◌≤◌};
 
 use crate::folder::{Target, Written, trouble_of_folder};
-use crate::packages::{Stored, package_at, stored_at};
+use crate::packages::{Stored, stored_at};
+use crate::pages::Pages;
 use crate::refusals::tell_why_refused;
+use crate::reread::{Reread, package_by};
 use cfb_medium::Error;
 use msi::Package;
 use package_files::{Names, Shown, Trouble, check_shown, tell_error, tell_failure, tell_trouble};
@@ -19,6 +21,7 @@ use std::rt::Files;
 pub fn export_package<'a, R: Files<File = File> + AllocGlobal, E: Write>(
     rt: &'a R,
     names: &'a Names,
+    pages: Pages,
     folder: &'a str,
     err: &'a mut E,
 ) -> u8
@@ -28,7 +31,7 @@ pub fn export_package<'a, R: Files<File = File> + AllocGlobal, E: Write>(
         tell_failure(names, failure, err);
         return 3;
     }
-    let (mut package, stored) = match read_package(rt, names) {
+    let (mut package, reread, stored) = match read_package(rt, names, pages, err) {
         Ok(read) => read,
         Err(error) => {
             tell_why_refused(rt, names, error, err);
@@ -38,13 +41,24 @@ pub fn export_package<'a, R: Files<File = File> + AllocGlobal, E: Write>(
     write_package(rt, &mut package, &stored, names.named(), folder, err)
 }
 
-// A package, and what its file has beside it.
-fn read_package<R: Files<File = File> + AllocGlobal>(
+// The number of UTF-8.
+const UTF8: u32 = 65001;
+
+// A package, how its texts were read, and what its file has beside it. Texts that were put in UTF-8 are exported under that page.
+fn read_package<R: Files<File = File> + AllocGlobal, E: Write>(
     rt: &R,
     names: &Names,
-) -> Result<(Package<Shown>, Stored), Error> {
-    let package = package_at(rt, names)?;
-    Ok((package, stored_at(rt, names)?))
+    pages: Pages,
+    err: &mut E,
+) -> Result<(Package<Shown>, Reread, Stored), Error> {
+    let (package, reread) = package_by(rt, names, pages, err)?;
+    let stored = stored_at(rt, names)?;
+    let page = if reread.texts.is_rewritten {
+        UTF8
+    } else {
+        stored.page
+    };
+    Ok((package, reread, Stored { page, ..stored }))
 }
 
 // The status of an export, and what went wrong is told.

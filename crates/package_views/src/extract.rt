@@ -1,8 +1,9 @@
 //! One stream of a package as a file.
 ghost use Rattle.std.specs.Prelude.{◌≤◌};
 
-use crate::packages::{bytes_of, package_at};
+use crate::packages::bytes_of;
 use crate::refusals::tell_why_refused;
+use crate::reread::package_as_named;
 use cfb_medium::Error;
 use package_files::{
     Names, Trouble, check_shown, tell, tell_failure, tell_part, tell_trouble, tell_unwritten,
@@ -30,7 +31,7 @@ pub fn extract_stream<'a, R: Files<File = File> + AllocGlobal, O: Write, E: Writ
         tell_failure(names, failure, err);
         return 3;
     }
-    let mut package = match package_at(rt, names) {
+    let mut package = match package_as_named(rt, names) {
         Ok(package) => package,
         Err(error) => {
             tell_why_refused(rt, names, error, err);

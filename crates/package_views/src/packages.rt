@@ -26,7 +26,7 @@ pub fn package_at<R: Files<File = File> + AllocGlobal>(
     package_of(rt.alloc(), shown)
 }
 
-fn package_of(alloc: Global, shown: Shown) -> Result<Package<Shown>, Error> {
+pub(crate) fn package_of(alloc: Global, shown: Shown) -> Result<Package<Shown>, Error> {
     let letters = CaseMapper::ascii(alloc)?;
     match Package::open(alloc, shown, letters) {
         Ok(package) => Ok(package),
@@ -43,7 +43,8 @@ pub fn container_at<R: Files<File = File> + AllocGlobal>(
     container_of(rt.alloc(), shown)
 }
 
-fn container_of(alloc: Global, shown: Shown) -> Result<CompoundFile<Shown>, Error> {
+/// The compound file in a file.
+pub fn container_of(alloc: Global, shown: Shown) -> Result<CompoundFile<Shown>, Error> {
     let letters = CaseMapper::ascii(alloc)?;
     match CompoundFile::open(alloc, shown, letters) {
         Ok(file) => Ok(file),

@@ -1,10 +1,13 @@
 //! One property of a package, or one field of its summary, as a text.
 ghost use Rattle.std.specs.Prelude.{◌≤◌};
 
+use crate::own::{SummaryPage, page_in_summary};
 use crate::packages::{
     columns_of, package_at, properties_of, rows_of, table_named, text_of_json, value_of_property,
 };
+use crate::pages::Pages;
 use crate::refusals::tell_why_refused;
+use crate::reread::package_by;
 use cfb_medium::Error;
 use msi::Package;
 use msi_columns::Column;
@@ -43,6 +46,7 @@ pub fn get_property<'a, R: Files<File = File> + AllocGlobal, O: Write, E: Write>
     names: &'a Names,
     name: &str,
     is_field: bool,
+    pages: Pages,
     out: &'a mut O,
     err: &'a mut E,
 ) -> u8
@@ -52,15 +56,15 @@ pub fn get_property<'a, R: Files<File = File> + AllocGlobal, O: Write, E: Write>
         tell_failure(names, failure, err);
         return 3;
     }
-    let mut package = match package_at(rt, names) {
-        Ok(package) => package,
+    let (mut package, reread) = match package_by(rt, names, pages, err) {
+        Ok(read) => read,
         Err(error) => {
             tell_why_refused(rt, names, error, err);
             return 3;
         }
     };
     let sought = if is_field {
-        field_in(rt.alloc(), &package, name)
+        field_in(rt.alloc(), &package, page_in_summary(&reread.summary), name)
     } else {
         property_in(rt.alloc(), &mut package, name)
     };
@@ -91,7 +95,7 @@ pub fn has_property<R: Files<File = File> + AllocGlobal>(
 ) -> Result<bool, Error> {
     let mut package = package_at(rt, names)?;
     let sought = if is_field {
-        field_in(rt.alloc(), &package, name)?
+        field_in(rt.alloc(), &package, SummaryPage::AsRead, name)?
     } else {
         property_in(rt.alloc(), &mut package, name)?
     };
@@ -186,11 +190,27 @@ fn number_of(field: &str) -> Option<u32> {
     })
 }
 
-// The value of a field of the summary.
-fn field_in(alloc: Global, package: &Package<Shown>, field: &str) -> Result<Sought, Error> {
+// The number of the property that tells the page of the summary.
+const CODEPAGE: u32 = 1;
+
+// The value of a field of the summary, of whose page this is told.
+fn field_in(
+    alloc: Global,
+    package: &Package<Shown>,
+    page: SummaryPage,
+    field: &str,
+) -> Result<Sought, Error> {
     let Some(number) = number_of(field) else {
         return Ok(Sought::NoField);
     };
+    match page {
+        SummaryPage::Named(id) if number == CODEPAGE => {
+            let value = PropertyValue::I2(id.cast_signed());
+            return Ok(Sought::Value(text_of_field(alloc, field, &value)?));
+        }
+        SummaryPage::Missing if number == CODEPAGE => return Ok(Sought::Nothing),
+        _ => {}
+    }
     for (other, value) in properties_of(package) {
         if *other == number {
             return Ok(Sought::Value(text_of_field(alloc, field, value)?));

@@ -2,11 +2,14 @@
 ghost use Rattle.std.specs.Prelude.{◌≤◌};
 
 use crate::grids::grid_lines;
+use crate::own::{Own, SummaryPage, own_facts};
 use crate::packages::{
-    facts_of, is_signed, is_sound, kind_of, package_at, page_of, properties_of, rows_of,
-    streams_of, table_named, tables_of, text_of_json, value_of_cell, value_of_property,
+    facts_of, is_signed, kind_of, properties_of, rows_of, streams_of, table_named, tables_of,
+    text_of_json, value_of_cell, value_of_property,
 };
+use crate::pages::Pages;
 use crate::refusals::tell_why_refused;
+use crate::reread::package_by;
 use crate::tree::{tree_at, write_tree};
 use cfb_medium::Error;
 use command_words::Parts;
@@ -48,6 +51,7 @@ pub fn show_package<'a, R: Files<File = File> + AllocGlobal, O: Write, E: Write>
     rt: &R,
     names: &'a Names,
     parts: Parts<'_>,
+    pages: Pages,
     is_terminal: bool,
     out: &'a mut O,
     err: &'a mut E,
@@ -64,14 +68,15 @@ pub fn show_package<'a, R: Files<File = File> + AllocGlobal, O: Write, E: Write>
             return status;
         }
     }
-    let mut package = match package_at(rt, names) {
-        Ok(package) => package,
+    let (mut package, reread) = match package_by(rt, names, pages, err) {
+        Ok(read) => read,
         Err(error) => {
             tell_why_refused(rt, names, error, err);
             return 3;
         }
     };
-    let mut page = Page::new(rt.alloc(), names.named(), is_terminal, out, err);
+    let own = own_facts(rt, names, &package, &reread);
+    let mut page = Page::new(rt.alloc(), names.named(), own, is_terminal, out, err);
     match show_parts(&mut page, &mut package, parts) {
         Ok(Shown::Whole) => 0,
         Ok(Shown::NoTable) => 1,
@@ -132,6 +137,7 @@ fn show_parts<O: Write, E: Write>(
 struct Page<'a, O, E> {
     alloc: Global,
     path: &'a str,
+    own: Own,
     // A person reads them.
     is_terminal: bool,
     out: Output<'a, O>,
@@ -142,6 +148,7 @@ impl<'a, O: Write, E: Write> Page<'a, O, E> {
     fn new(
         alloc: Global,
         path: &'a str,
+        own: Own,
         is_terminal: bool,
         out: &'a mut O,
         err: &'a mut E,
@@ -149,6 +156,7 @@ impl<'a, O: Write, E: Write> Page<'a, O, E> {
         Page {
             alloc,
             path,
+            own,
             is_terminal,
             out: Output::new(out),
             err,
@@ -156,7 +164,7 @@ impl<'a, O: Write, E: Write> Page<'a, O, E> {
     }
 
     fn show_all(&mut self, package: &mut Package<ShownFile>) -> Result<Shown, Error> {
-        self.line(&facts_value(self.alloc, package)?)?;
+        self.line(&facts_value(self.alloc, package, self.own)?)?;
         self.show_summary(package)?;
         let tables = self.show_tables(package)?;
         let streams = self.show_streams(package)?;
@@ -170,10 +178,25 @@ impl<'a, O: Write, E: Write> Page<'a, O, E> {
     // Each property of the summary.
     fn show_summary(&mut self, package: &Package<ShownFile>) -> Result<(), Error> {
         for (number, value) in properties_of(package) {
-            let line = numbered_value(self.alloc, *number, value)?;
-            self.line(&line)?;
+            self.show_property(*number, value)?;
         }
         Ok(())
+    }
+
+    // A property, as the file has it.
+    fn show_property(&mut self, number: u32, value: &PropertyValue) -> Result<(), Error> {
+        match self.own.summary {
+            SummaryPage::Missing if number == CODEPAGE => Ok(()),
+            SummaryPage::Named(page) if number == CODEPAGE => {
+                self.show_value(number, &PropertyValue::I2(page.cast_signed()))
+            }
+            _ => self.show_value(number, value),
+        }
+    }
+
+    fn show_value(&mut self, number: u32, value: &PropertyValue) -> Result<(), Error> {
+        let line = numbered_value(self.alloc, number, value)?;
+        self.line(&line)
     }
 
     // Each table, by the bytes of the names.
@@ -294,10 +317,10 @@ impl<'a, O: Write, E: Write> Page<'a, O, E> {
 }
 
 // What is said of the whole package.
-fn facts_value(alloc: Global, package: &Package<ShownFile>) -> Result<Json, AllocError> {
+fn facts_value(alloc: Global, package: &Package<ShownFile>, own: Own) -> Result<Json, AllocError> {
     let kind = Json::String(format!(in alloc; "{:?}", kind_of(package))?);
-    let page = Json::from(page_of(package));
-    let (signed, sound) = (is_signed(package), is_sound(package));
+    let page = Json::from(own.page);
+    let (signed, sound) = (is_signed(package), own.is_sound);
     json!(in alloc; {"codepage": page, "kind": kind, "signed": signed, "sound": sound})
 }
 

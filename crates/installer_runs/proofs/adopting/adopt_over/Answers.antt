@@ -5,7 +5,7 @@ use Rattle.cfb_medium.specs.Calls.{IsFaultOrInvalidInputIf}
 use Rattle.cfb_tree.specs.CaseTableViews.{case_table_of}
 use Rattle.installer.proofs.Begun.{counted_later}
 use Rattle.installer.specs.Refusals.{IsFreshFault}
-use Rattle.installer_runs.proofs.Adopted.{adopts_from, adopts_none, adopts_there, fresh_at, held_sound, too_long}
+use Rattle.installer_runs.proofs.Adopted.{adopts_from, adopts_none, adopts_there, fresh_at, keeps_sound, too_long}
 use Rattle.installer_runs.proofs.Copied.{copied_survives, rested_survives}
 use Rattle.installer_runs.specs.Adopting.{IsTooLongToAdopt}
 use Rattle.msi_adopting.specs.Adopted.{IsUnadopted}
@@ -29,7 +29,7 @@ returns-in-Ok-clause-survives g c = λ honest may.
     adopts_from letters g.D.Device (staged_bytes c.args.medium) (device_of c.args.medium) (device_of last.last) c.commit_adopted.result.0 last.given (staged_bytes mid) some.0 some.1
     (λ tree P held. c.in-Ok.ensures.adopted tree P honest held)
     (copied_survives g.D.Device letters d.counts_now d.rests_keeps d.rests_leaves c.args.medium mid last.last some.0
-    (c.in-Ok.ensures.left.1 c.args.medium (record { device = d.rests_refl _; failed = refl })).device last.honest last.counted (last.crash after) (λ fit. held_sound letters (staged_bytes mid) some.0 some.1)
+    (c.in-Ok.ensures.left.1 c.args.medium (record { device = d.rests_refl _; failed = refl })).device last.honest last.counted (last.crash after) (keeps_sound letters (staged_bytes mid) some.0 some.1)
     c.commit_adopted.result.1 (last.published after))
 
 pub returns-in-Ok-clause-refused_only_if : goal.returns-in-Ok-clause-refused_only_if

@@ -1,0 +1,138 @@
+//! Packages whose texts are to be put in UTF-8: what would be lost of them.
+ghost use Rattle.std.specs.Prelude.{◌≤◌, IfErr};
+
+use crate::check::text_of;
+use crate::packages::{Looked, looked_at, property_text, quote, text_at};
+use crate::places::{Reading, write_places};
+use cfb_medium::Error;
+use msi::Defect;
+use msi_export::property_name;
+use package_files::{Names, Output, status_of_error};
+use package_views::{
+    Pages, PartRead, Reread, shown_by, tell_source, tell_why_refused, told_number,
+};
+use std::alloc::Global;
+use std::fs::File;
+use std::io::Write;
+use std::rt::Files;
+
+/// Refuses a package whose texts can't be put in UTF-8 as these pages read them: bytes without a character, texts with other bytes that read
+/// as one, a summary of several sections, or a compound file that isn't sound. Each is told by a line, and each place; the status is 1
+/// then, and 3 where the package can't be read, or nothing can be written.
+pub(crate) fn check_texts<R: Files<File = File> + AllocGlobal, O: Write, E: Write>(
+    rt: &R,
+    names: &Names,
+    pages: Pages,
+    out: &mut O,
+    err: &mut E,
+) -> Result<(), u8>
+    ensures { IfErr result (λ status. status ≤ 3) }
+{
+    let reread = match shown_by(rt, names, pages) {
+        Ok((_shown, reread)) => reread,
+        Err(error) => {
+            tell_why_refused(rt, names, error, err);
+            return Err(3);
+        }
+    };
+    if is_whole(&reread) {
+        tell_source(names.named(), &reread, err);
+        return Ok(());
+    }
+    let mut out = Output::new(out);
+    match write_losses(rt, names, pages, &reread, &mut out) {
+        Ok(()) => Err(1),
+        Err(error) => Err(status_of_error(names.named(), error, out.broken(), 1, err)),
+    }
+}
+
+// Whether nothing is lost.
+fn is_whole(reread: &Reread) -> bool {
+    is_part_whole(&reread.texts) && is_part_whole(&reread.summary)
+}
+
+fn is_part_whole(part: &PartRead) -> bool {
+    part.lacking.is_empty() && part.joined.is_empty() && part.sections < 2 && !part.is_kept_back
+}
+
+// Writes what would be lost, a line each.
+fn write_losses<R: Files<File = File> + AllocGlobal, O: Write>(
+    rt: &R,
+    names: &Names,
+    pages: Pages,
+    reread: &Reread,
+    out: &mut Output<'_, O>,
+) -> Result<(), Error> {
+    if reread.texts.is_kept_back || reread.summary.is_kept_back {
+        let reading = Reading {
+            judged: None,
+            told: None,
+        };
+        out.line(text_of(Defect::Container))?;
+        return write_places(rt, names, reading, Defect::Container, out);
+    }
+    if 1 < reread.summary.sections {
+        out.line(text_of(Defect::SummarySections))?;
+    }
+    let looked = looked_at(rt, names, Some(pages))?;
+    write_lacking_texts(rt.alloc(), &looked, &reread.texts, out)?;
+    write_joined(rt.alloc(), &looked, &reread.texts, out)?;
+    write_lacking_properties(rt.alloc(), &looked, &reread.summary, out)
+}
+
+fn write_lacking_texts<O: Write>(
+    alloc: Global,
+    looked: &Looked,
+    part: &PartRead,
+    out: &mut Output<'_, O>,
+) -> Result<(), Error> {
+    if part.lacking.is_empty() {
+        return Ok(());
+    }
+    let page = told_number(part.read_by.unwrap_or(0));
+    out.line(&format!(in alloc; "texts: one has bytes without a character in code page {page}")?)?;
+    for place in &part.lacking {
+        let text = quote(alloc, text_at(looked, *place))?;
+        out.line(&format!(in alloc; "  place {place}, {text}")?)?;
+    }
+    Ok(())
+}
+
+fn write_joined<O: Write>(
+    alloc: Global,
+    looked: &Looked,
+    part: &PartRead,
+    out: &mut Output<'_, O>,
+) -> Result<(), Error> {
+    if part.joined.is_empty() {
+        return Ok(());
+    }
+    let page = told_number(part.read_by.unwrap_or(0));
+    out.line(&format!(in alloc; "texts: two with other bytes read as one in code page {page}")?)?;
+    for (first, second) in &part.joined {
+        let text = quote(alloc, text_at(looked, *second))?;
+        out.line(&format!(in alloc; "  places {first} and {second}, {text}")?)?;
+    }
+    Ok(())
+}
+
+fn write_lacking_properties<O: Write>(
+    alloc: Global,
+    looked: &Looked,
+    part: &PartRead,
+    out: &mut Output<'_, O>,
+) -> Result<(), Error> {
+    if part.lacking.is_empty() {
+        return Ok(());
+    }
+    let page = told_number(part.read_by.unwrap_or(0));
+    out.line(&format!(in alloc;
+        "summary: a text has bytes without a character in code page {page}"
+    )?)?;
+    for number in &part.lacking {
+        let text = quote(alloc, property_text(looked, *number))?;
+        let name = property_name(*number).unwrap_or("unknown");
+        out.line(&format!(in alloc; "  property {number}, {name}: {text}")?)?;
+    }
+    Ok(())
+}

@@ -1,0 +1,3 @@
+pub mod SetParts
+pub mod Steps
+pub mod SetsTold
