@@ -1,0 +1,2 @@
+-- Lemmas on listings.
+pub mod AlikeLists
