@@ -1,0 +1,12 @@
+-- The rules that a package keeps.
+pub mod Cells
+pub mod Firsts
+pub mod Foreign
+pub mod Keys
+pub mod Needs
+pub mod Parts
+pub mod Places
+pub mod Rules
+pub mod Said
+pub mod Sentences
+pub mod Streams

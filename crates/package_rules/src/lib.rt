@@ -1,0 +1,28 @@
+//! The rules that a package of Windows Installer keeps, and the places at which one doesn't, over its listing in memory.
+#![tactic(auto)]
+
+mod cells;
+mod entries;
+mod foreign;
+mod keys;
+mod laws;
+mod names;
+mod nulls;
+mod parts;
+mod place;
+mod products;
+mod said;
+mod streams;
+mod texts;
+
+pub use foreign::lost_keys;
+pub use keys::broken_keys;
+pub use laws::{
+    foreign_is_kept, foreign_is_told, key_is_kept, key_is_told, nullable_is_kept, nullable_is_told,
+    stream_is_kept, stream_is_told,
+};
+pub use nulls::untaken_nulls;
+pub use place::Place;
+pub use products::{Needed, lacking_in_summary, lacking_properties};
+pub use streams::unbacked_bytes;
+pub use texts::{empty_texts, long_texts};
