@@ -9,6 +9,7 @@ use Rattle.package_rules.specs.Firsts.{AreEntries, AreFirsts, CellSet, Said, is_
 use Rattle.package_rules.specs.Foreign.{Entry, entries, foreign_found, is_entry, leads, stands}
 use Rattle.package_rules.specs.Parts.{said}
 use Rattle.package_rules.specs.Places.{places_where}
+use Rattle.package_rules.specs.Refers.{refers_found, target_of}
 use Rattle.package_rules.specs.Said.{column_in, rows_named, said_of, tables_in}
 
 said_part : (d : CellContent) → said (part_of d) ≡ d
@@ -34,3 +35,11 @@ pub found_all : (L : ListingContent) (m : Said) (s : CellSet) → AreFirsts (row
 found_all L m s told are = λ i.
     places_where (λ t c. option_map_or (λ v. is_some (tables_in v)) (found_row L m told t.name c.name i) false)
     (λ t c row d. not (is_null d) && option_map_or (λ v. not (found_lead (entries L) s are v d i)) (found_row L m told t.name c.name i) false) L
+
+-- the same of columns that are named for another table
+pub referred_all : (L : ListingContent) (m : Said) (s : CellSet) → AreFirsts (rows_named (codes "_Validation") L) m → AreEntries (entries L) s
+    → places_where (λ t c. is_some (target_of t.name c.name) && not (option_map_or (λ v. is_some (tables_in v)) (said_at m t.name c.name) false))
+    (λ t c row d. not (is_null d) && option_map_or (λ target. not (is_in s target 1 d)) (target_of t.name c.name) false) L ≡ refers_found L
+referred_all L m s told are = λ i.
+    places_where (λ t c. is_some (target_of t.name c.name) && not (option_map_or (λ v. is_some (tables_in v)) (found_row L m told t.name c.name i) false))
+    (λ t c row d. not (is_null d) && option_map_or (λ target. not (found_cell (entries L) s are target 1 d i)) (target_of t.name c.name) false) L

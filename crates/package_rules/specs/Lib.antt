@@ -6,6 +6,7 @@ pub mod Keys
 pub mod Needs
 pub mod Parts
 pub mod Places
+pub mod Refers
 pub mod Rules
 pub mod Said
 pub mod Sentences

@@ -53,8 +53,8 @@ impl<'a> CellRule<'a> for ForeignKeys<'a> {
     }
 }
 
-// The row of `_Validation` that speaks of a column.
-fn row_of<'a>(
+/// The row of `_Validation` that speaks of a column.
+pub(crate) fn row_of<'a>(
     said: &BTreeMap<ColumnName<'a>, &'a Row>,
     table: &'a Table,
     column: &'a Column,
@@ -88,8 +88,8 @@ fn is_free(category: Option<&str>) -> bool
     }
 }
 
-// The tables that a row of `_Validation` names, with `;` between them.
-fn tables_of(row: &Row) -> Option<&str>
+/// The tables that a row of `_Validation` names, with `;` between them.
+pub(crate) fn tables_of(row: &Row) -> Option<&str>
     ensures { option_copied result ≡ tables_in row.now }
 {
     let cells = row.cells();

@@ -11,6 +11,7 @@ mod nulls;
 mod parts;
 mod place;
 mod products;
+mod refers;
 mod said;
 mod streams;
 mod texts;
@@ -24,5 +25,6 @@ pub use laws::{
 pub use nulls::untaken_nulls;
 pub use place::Place;
 pub use products::{Needed, lacking_in_summary, lacking_properties};
+pub use refers::lost_references;
 pub use streams::unbacked_bytes;
 pub use texts::{empty_texts, long_texts};
