@@ -149,6 +149,11 @@ right_at at stop p [] d t h = absurd (omega (arith, h))
 right_at at stop zero (r ∷ runs) d t h = t.2
 right_at at stop (suc p) (r ∷ runs) d t h = right_at (start_of stop runs) stop p runs d t.3 (omega (arith, h))
 
+-- no run is empty, so there are no more than entries
+pub runs_few : (at stop : ℕ) (runs : List Run) → AreTiled at stop runs → at + length runs ≤ stop
+runs_few at stop [] t = let s : at ≡ stop = t in omega (arith, s)
+runs_few at stop (r ∷ runs) t = let more = runs_few (start_of stop runs) stop runs t.3 in let less = t.1 in omega (arith, more, less)
+
 -- where there is an entry there is a run, and the first begins at the front
 pub some_runs : (at stop : ℕ) (runs : List Run) → at < stop → AreTiled at stop runs → 0 < length runs
 some_runs at stop [] less t = absurd (let s : at ≡ stop = t in omega (arith, s, less))

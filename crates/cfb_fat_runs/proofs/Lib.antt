@@ -1,4 +1,5 @@
 pub mod Edited
+pub mod Gapped
 pub mod Marking
 pub mod RunStarts
 pub mod Splicing

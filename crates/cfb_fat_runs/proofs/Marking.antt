@@ -1,50 +1,17 @@
--- Runs that are freed whole, and neighbours that are joined in a pass.
-use Rattle.std.proofs.Common.{◌≡◌, ◌+◌, ◌-◌, [], suc, ◌<◌, ◌≤◌, ◌⊎◌, ℕ, List, ◌∷◌, ◌++◌, length, map, take, drop, get_or, refl, sym, ap, subst, ◌∙◌, arith, ⊎_elim, append_assoc, inl, inr}
+-- Runs that are freed whole.
+use Rattle.std.proofs.Common.{◌≡◌, ◌+◌, ◌-◌, suc, ◌<◌, ◌≤◌, ◌⊎◌, ℕ, List, ◌∷◌, ◌++◌, length, map, take, drop, get_or, refl, sym, ap, subst, ◌∙◌, arith, ⊎_elim, inl, inr}
 use Rattle.std.proofs.Math.ListN.{set}
 use Rattle.std.specs.List.{range_with_len}
 use Rattle.std.proofs.lemmas.Bool.{cases_lt}
-use Rattle.std.proofs.lemmas.List.{at_drop_more, drop-set-lt, get_or_past, set_split, take_more}
+use Rattle.std.proofs.lemmas.List.{get_or_past, set_split}
 use Rattle.std.proofs.lemmas.List.FromFn.{get_or-map-range_with_len, length-map-range_with_len}
 use Rattle.cfb_sectors.specs.Sectors.{end_of_chain, free}
 use Rattle.cfb_fat_runs.specs.Freeing.{FreesFirst, FreesFrom}
-use Rattle.cfb_fat_runs.specs.Runs.{entry_at, half_joined, head_of, leading_to, tail_of, start_of, AreTiled, IsRight}
+use Rattle.cfb_fat_runs.specs.Runs.{entry_at, start_of, AreTiled, IsRight}
 use Rattle.cfb_fat_runs.specs.declared.runs.Kind.TheVariants.{Special}
 use Rattle.cfb_fat_runs.specs.declared.runs.Run.{Run}
-use Rattle.cfb_fat_runs.proofs.Edited.{front_set, same_item, skip_front, split_one, SameRuns}
-use Rattle.cfb_fat_runs.proofs.Splicing.{above, back_tiled, below, cut_entry, entry_in_place, tiled_in, tiled_least}
-
--- two neighbours are made one
-joined_at : (len : ℕ) (front back : List Run) (a b : Run) → AreTiled 0 len (front ++ a ∷ b ∷ back) → a.kind ≡ leading_to b.first b.kind → SameRuns len (front ++ a ∷ b ∷ back) (front ++ record { first = a.first; kind = b.kind } ∷ back)
-joined_at len front back a b t leads =
-    let r : Run = record { first = a.first; kind = b.kind } in
-    let here = back_tiled 0 len front (a ∷ b ∷ back) t in
-    let heads : a ∷ b ∷ back ≡ head_of r b.first ∷ tail_of r b.first ∷ back = ap (λ k. record { first = a.first; kind = k } ∷ b ∷ back) leads in
-    record {
-      tiled = tiled_in 0 len front (a ∷ b ∷ back) (r ∷ back) refl (λ m s. (s.0, (let x = s.1 in let y = s.3.1 in omega (arith, x, y)), s.3.2, s.3.3)) t;
-      entries = λ k less. entry_in_place 0 len k front (a ∷ b ∷ back) (r ∷ back) refl t (omega arith)
-          (λ past. ap (λ l. entry_at len l k) heads ∙ sym (cut_entry len b.first k r back here.3.1));
-    }
-
--- the last run that was joined leads on to the next
-pub half_made : (len p i : ℕ) (xs : List Run) (a b m : Run) → p < i → i < length xs → a ≡ get_or xs p a → b ≡ get_or xs i b → m ≡ get_or xs p m → a.kind ≡ leading_to b.first b.kind → AreTiled 0 len (half_joined p i xs)
-    → SameRuns len (half_joined p i xs) (half_joined p (i + 1) (set xs p (record { first = m.first; kind = b.kind })))
-half_made len p i xs a b m before inside is_a is_b is_m leads tiled =
-    let front = take p xs in
-    let back = drop (i + 1) xs in
-    let here : p < length xs = omega (arith, before, inside) in
-    let one : m ≡ a = is_m ∙ same_item xs p m a here ∙ sym is_a in
-    let new : Run = record { first = m.first; kind = b.kind } in
-    let first : take (p + 1) xs ≡ front ++ a ∷ [] = take_more xs p a here ∙ ap (λ x. front ++ x ∷ []) (sym is_a) in
-    let second : drop i xs ≡ b ∷ back = at_drop_more (λ l. l) xs i b inside ∙ ap (λ x. x ∷ back) (sym is_b) in
-    let old : half_joined p i xs ≡ front ++ a ∷ b ∷ back = ap (λ l. l ++ drop i xs) first ∙ ap (λ l. (front ++ a ∷ []) ++ l) second ∙ append_assoc front (a ∷ []) (b ∷ back) in
-    let now : half_joined p (i + 1) (set xs p new) ≡ front ++ record { first = a.first; kind = b.kind } ∷ back =
-    ap (λ l. l ++ drop (i + 1) (set xs p new)) (front_set xs p new here) ∙ ap (λ l. (front ++ new ∷ []) ++ l) (drop-set-lt (i + 1) xs p new (omega (arith, before)))
-    ∙ append_assoc front (new ∷ []) back ∙ ap (λ (x : Run). front ++ record { first = x.first; kind = b.kind } ∷ back) one in
-    let same = joined_at len front back a b (subst (AreTiled 0 len) old tiled) leads in
-    record {
-      tiled = subst (AreTiled 0 len) (sym now) same.tiled;
-      entries = λ k less. ap (λ l. entry_at len l k) old ∙ same.entries k less ∙ ap (λ l. entry_at len l k) (sym now);
-    }
+use Rattle.cfb_fat_runs.proofs.Edited.{skip_front, split_one}
+use Rattle.cfb_fat_runs.proofs.Splicing.{above, back_tiled, below, entry_in_place, tiled_in, tiled_least}
 
 -- the sectors of a run are free
 pub record FreesRun (len at stop : ℕ) (xs ys : List Run) : Type 0 where

@@ -8,6 +8,7 @@ use Rattle.std.proofs.lemmas.List.{take_all}
 use Rattle.std.proofs.lemmas.List.FromFn.{get_or-range_with_len, length-range_with_len}
 use Rattle.std.proofs.lemmas.List.Sums.{count_by_more_no, count_by_more_yes}
 use Rattle.cfb_sectors.specs.Sectors.{end_of_chain, greatest_regular}
+use Rattle.cfb_fat_runs.specs.Gaps.{all_runs}
 use Rattle.cfb_fat_runs.specs.Longest.{begins_run, goes_on, is_of_chain, runs_in}
 use Rattle.cfb_fat_runs.specs.Runs.{entry_in, leading_to, start_of, IsRight}
 use Rattle.cfb_fat_runs.specs.Tables.{entries_of}
@@ -88,9 +89,9 @@ ends_there entries (Linked n) (Linked m) s k left right less inside few here nex
 
 module _ (it : Table) where
   -- the sectors of a run but its first one begin none
-  pub goes_in_run : (p k : ℕ) (m : Run) → p < length it.runs.items → m ≡ get_or it.runs.items p m → m.first ≤ k → k + 1 < start_of it.len (drop (p + 1) it.runs.items) → goes_on (entries_of it) k ≡ true
+  pub goes_in_run : (p k : ℕ) (m : Run) → p < length (all_runs it.runs) → m ≡ get_or (all_runs it.runs) p m → m.first ≤ k → k + 1 < start_of it.len (drop (p + 1) (all_runs it.runs)) → goes_on (entries_of it) k ≡ true
   goes_in_run p k m inside is from to =
-      let xs = it.runs.items in
+      let xs = (all_runs it.runs) in
       let s = start_of it.len (drop (p + 1) xs) in
       let most = stop_least it.len p xs m it.tiled inside is in
       let size = size_of it in
@@ -99,10 +100,10 @@ module _ (it : Table) where
       (entry_here it p k m inside is from (omega (arith, to))) (entry_here it p (k + 1) m inside is (omega (arith, from)) to)
 
   -- a run begins where the one in front doesn't lead on to it
-  pub begins_behind : (q : ℕ) (a b : Run) (t : Bool) → q + 1 < length it.runs.items → a ≡ get_or it.runs.items q a → b ≡ get_or it.runs.items (q + 1) b → (t ≡ true → a.kind ≡ leading_to b.first b.kind) → (a.kind ≡ leading_to b.first b.kind → t ≡ true)
+  pub begins_behind : (q : ℕ) (a b : Run) (t : Bool) → q + 1 < length (all_runs it.runs) → a ≡ get_or (all_runs it.runs) q a → b ≡ get_or (all_runs it.runs) (q + 1) b → (t ≡ true → a.kind ≡ leading_to b.first b.kind) → (a.kind ≡ leading_to b.first b.kind → t ≡ true)
       → begins_run (entries_of it) b.first ≡ not t
   begins_behind q a b t inside is_a is_b leads_so so =
-      let xs = it.runs.items in
+      let xs = (all_runs it.runs) in
       let entries = entries_of it in
       let front : q < length xs = omega (arith, inside) in
       let s = start_of it.len (drop (q + 1 + 1) xs) in
@@ -143,13 +144,13 @@ number_here : (n k : ℕ) → k < n → get_or (range_with_len 0 n) k 0 ≡ k
 number_here n k less = get_or-range_with_len 0 n k 0 less ∙ omega arith
 
 module _ (it : Table) where
-  starts_behind : (p : ℕ) (m : Run) → p < length it.runs.items → m ≡ get_or it.runs.items p m
-      → count_by (begins_run (entries_of it)) (take (m.first + 1) (range_with_len 0 (length (entries_of it)))) ≡ count_by (begins_run (entries_of it)) (take (start_of it.len (drop (p + 1) it.runs.items)) (range_with_len 0 (length (entries_of it))))
+  starts_behind : (p : ℕ) (m : Run) → p < length (all_runs it.runs) → m ≡ get_or (all_runs it.runs) p m
+      → count_by (begins_run (entries_of it)) (take (m.first + 1) (range_with_len 0 (length (entries_of it)))) ≡ count_by (begins_run (entries_of it)) (take (start_of it.len (drop (p + 1) (all_runs it.runs))) (range_with_len 0 (length (entries_of it))))
   starts_behind p m inside is =
-      let s = start_of it.len (drop (p + 1) it.runs.items) in
+      let s = start_of it.len (drop (p + 1) (all_runs it.runs)) in
       let nums = range_with_len 0 (length (entries_of it)) in
-      let some = run_some it.len p it.runs.items m it.tiled inside is in
-      let most = stop_least it.len p it.runs.items m it.tiled inside is in
+      let some = run_some it.len p (all_runs it.runs) m it.tiled inside is in
+      let most = stop_least it.len p (all_runs it.runs) m it.tiled inside is in
       let size = size_of it in
       let long : length nums ≡ length (entries_of it) = length-range_with_len 0 (length (entries_of it)) in
       let e : m.first + 1 + (s - (m.first + 1)) ≡ s = omega (arith, some) in
@@ -158,14 +159,14 @@ module _ (it : Table) where
       ∙ no_start (entries_of it) k (omega (arith, from)) (goes_in_run it p (k - 1) m inside is (omega (arith, from)) (omega (arith, from, to, e))))
       ∙ ap (λ n. count_by (begins_run (entries_of it)) (take n nums)) e
 
-  pub starts_one : (p : ℕ) (m : Run) → p < length it.runs.items → m ≡ get_or it.runs.items p m → begins_run (entries_of it) (start_of it.len (drop p it.runs.items)) ≡ true
-      → count_by (begins_run (entries_of it)) (take (start_of it.len (drop p it.runs.items)) (range_with_len 0 (length (entries_of it)))) + 1
-      ≡ count_by (begins_run (entries_of it)) (take (start_of it.len (drop (p + 1) it.runs.items)) (range_with_len 0 (length (entries_of it))))
+  pub starts_one : (p : ℕ) (m : Run) → p < length (all_runs it.runs) → m ≡ get_or (all_runs it.runs) p m → begins_run (entries_of it) (start_of it.len (drop p (all_runs it.runs))) ≡ true
+      → count_by (begins_run (entries_of it)) (take (start_of it.len (drop p (all_runs it.runs))) (range_with_len 0 (length (entries_of it)))) + 1
+      ≡ count_by (begins_run (entries_of it)) (take (start_of it.len (drop (p + 1) (all_runs it.runs))) (range_with_len 0 (length (entries_of it))))
   starts_one p m inside is begins =
       let nums = range_with_len 0 (length (entries_of it)) in
       let at = begins_with it p m inside is in
-      let some = run_some it.len p it.runs.items m it.tiled inside is in
-      let most = stop_least it.len p it.runs.items m it.tiled inside is in
+      let some = run_some it.len p (all_runs it.runs) m it.tiled inside is in
+      let most = stop_least it.len p (all_runs it.runs) m it.tiled inside is in
       let size = size_of it in
       let long : length nums ≡ length (entries_of it) = length-range_with_len 0 (length (entries_of it)) in
       ap (λ n. count_by (begins_run (entries_of it)) (take n nums) + 1) at
@@ -173,14 +174,14 @@ module _ (it : Table) where
       (ap (begins_run (entries_of it)) (number_here (length (entries_of it)) m.first (omega (arith, some, most, size)) ∙ sym at) ∙ begins))
       ∙ starts_behind p m inside is
 
-  pub starts_none : (p : ℕ) (m : Run) → p < length it.runs.items → m ≡ get_or it.runs.items p m → begins_run (entries_of it) (start_of it.len (drop p it.runs.items)) ≡ false
-      → count_by (begins_run (entries_of it)) (take (start_of it.len (drop p it.runs.items)) (range_with_len 0 (length (entries_of it)))) + 0
-      ≡ count_by (begins_run (entries_of it)) (take (start_of it.len (drop (p + 1) it.runs.items)) (range_with_len 0 (length (entries_of it))))
+  pub starts_none : (p : ℕ) (m : Run) → p < length (all_runs it.runs) → m ≡ get_or (all_runs it.runs) p m → begins_run (entries_of it) (start_of it.len (drop p (all_runs it.runs))) ≡ false
+      → count_by (begins_run (entries_of it)) (take (start_of it.len (drop p (all_runs it.runs))) (range_with_len 0 (length (entries_of it)))) + 0
+      ≡ count_by (begins_run (entries_of it)) (take (start_of it.len (drop (p + 1) (all_runs it.runs))) (range_with_len 0 (length (entries_of it))))
   starts_none p m inside is begins =
       let nums = range_with_len 0 (length (entries_of it)) in
       let at = begins_with it p m inside is in
-      let some = run_some it.len p it.runs.items m it.tiled inside is in
-      let most = stop_least it.len p it.runs.items m it.tiled inside is in
+      let some = run_some it.len p (all_runs it.runs) m it.tiled inside is in
+      let most = stop_least it.len p (all_runs it.runs) m it.tiled inside is in
       let size = size_of it in
       let long : length nums ≡ length (entries_of it) = length-range_with_len 0 (length (entries_of it)) in
       let same = ap (λ n. count_by (begins_run (entries_of it)) (take n nums)) at
@@ -189,21 +190,21 @@ module _ (it : Table) where
       ∙ starts_behind p m inside is in
       omega (arith, same)
 
-  pub starts_all : (p : ℕ) → length it.runs.items ≤ p → count_by (begins_run (entries_of it)) (take (start_of it.len (drop p it.runs.items)) (range_with_len 0 (length (entries_of it)))) ≡ runs_in (entries_of it)
+  pub starts_all : (p : ℕ) → length (all_runs it.runs) ≤ p → count_by (begins_run (entries_of it)) (take (start_of it.len (drop p (all_runs it.runs))) (range_with_len 0 (length (entries_of it)))) ≡ runs_in (entries_of it)
   unfolding runs_in
   starts_all p past =
       let size = size_of it in
       let long : length (range_with_len 0 (length (entries_of it))) ≡ length (entries_of it) = length-range_with_len 0 (length (entries_of it)) in
-      ap (λ n. count_by (begins_run (entries_of it)) (take n (range_with_len 0 (length (entries_of it))))) (start_none it.len p it.runs.items past)
+      ap (λ n. count_by (begins_run (entries_of it)) (take n (range_with_len 0 (length (entries_of it))))) (start_none it.len p (all_runs it.runs) past)
       ∙ ap (count_by (begins_run (entries_of it))) (take_all it.len (range_with_len 0 (length (entries_of it))) (omega (arith, size, long)))
 
   -- a run more is joined in front
-  pub on_before : (q : ℕ) (m : Run) (stop : ℕ) → q < length it.runs.items → m ≡ get_or it.runs.items q m → begins_run (entries_of it) (start_of it.len (drop (q + 1) it.runs.items)) ≡ false
-      → ((k : ℕ) → start_of it.len (drop (q + 1) it.runs.items) ≤ k → k + 1 < stop → goes_on (entries_of it) k ≡ true) → (k : ℕ) → start_of it.len (drop q it.runs.items) ≤ k → k + 1 < stop → goes_on (entries_of it) k ≡ true
+  pub on_before : (q : ℕ) (m : Run) (stop : ℕ) → q < length (all_runs it.runs) → m ≡ get_or (all_runs it.runs) q m → begins_run (entries_of it) (start_of it.len (drop (q + 1) (all_runs it.runs))) ≡ false
+      → ((k : ℕ) → start_of it.len (drop (q + 1) (all_runs it.runs)) ≤ k → k + 1 < stop → goes_on (entries_of it) k ≡ true) → (k : ℕ) → start_of it.len (drop q (all_runs it.runs)) ≤ k → k + 1 < stop → goes_on (entries_of it) k ≡ true
   on_before q m stop inside is joined on k from to =
-      let s = start_of it.len (drop (q + 1) it.runs.items) in
+      let s = start_of it.len (drop (q + 1) (all_runs it.runs)) in
       let at = begins_with it q m inside is in
-      let some = run_some it.len q it.runs.items m it.tiled inside is in
+      let some = run_some it.len q (all_runs it.runs) m it.tiled inside is in
       ⊎_elim
       (λ low. ⊎_elim
       (λ within. goes_in_run it q k m inside is (omega (arith, from, at)) within)
@@ -220,10 +221,10 @@ module _ (it : Table) where
       goes_so s more e = turned (goes_on (entries_of it) (s - 1)) (sym (ap (λ z. z || not (goes_on (entries_of it) (s - 1))) (ne_eqb s 0 (λ z. omega (arith, z, more)))) ∙ e)
 
   -- and one behind
-  pub on_after : (p q : ℕ) (m : Run) → q < length it.runs.items → m ≡ get_or it.runs.items q m → begins_run (entries_of it) (start_of it.len (drop q it.runs.items)) ≡ false → 0 < start_of it.len (drop q it.runs.items)
-      → ((k : ℕ) → p ≤ k → k + 1 < start_of it.len (drop q it.runs.items) → goes_on (entries_of it) k ≡ true) → (k : ℕ) → p ≤ k → k + 1 < start_of it.len (drop (q + 1) it.runs.items) → goes_on (entries_of it) k ≡ true
+  pub on_after : (p q : ℕ) (m : Run) → q < length (all_runs it.runs) → m ≡ get_or (all_runs it.runs) q m → begins_run (entries_of it) (start_of it.len (drop q (all_runs it.runs))) ≡ false → 0 < start_of it.len (drop q (all_runs it.runs))
+      → ((k : ℕ) → p ≤ k → k + 1 < start_of it.len (drop q (all_runs it.runs)) → goes_on (entries_of it) k ≡ true) → (k : ℕ) → p ≤ k → k + 1 < start_of it.len (drop (q + 1) (all_runs it.runs)) → goes_on (entries_of it) k ≡ true
   on_after p q m inside is joined more on k from to =
-      let s = start_of it.len (drop q it.runs.items) in
+      let s = start_of it.len (drop q (all_runs it.runs)) in
       let at = begins_with it q m inside is in
       ⊎_elim
       (λ low. on k from low)

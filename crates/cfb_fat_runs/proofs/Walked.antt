@@ -8,6 +8,7 @@ use Rattle.std.proofs.lemmas.List.Sums.{count_by-le-length, count_by_more_no, co
 use Rattle.std.proofs.lemmas.Option.{slice_get-get_or}
 use Rattle.cfb_sectors.specs.Sectors.{free, greatest_regular}
 use Rattle.cfb_sectors.proofs.Chains.{leads_more, Leads}
+use Rattle.cfb_fat_runs.specs.Gaps.{all_runs}
 use Rattle.cfb_fat_runs.specs.Runs.{entry_in, start_of, AreTiled, IsRight}
 use Rattle.cfb_fat_runs.specs.Tables.{entries_of}
 use Rattle.cfb_fat_runs.specs.Walking.{AreLinkedBehind}
@@ -24,10 +25,10 @@ pub run_some : (len p : ℕ) (xs : List Run) (m : Run) → AreTiled 0 len xs →
 run_some len p xs m tiled inside is = (back_tiled 0 len (take p xs) (m ∷ drop (p + 1) xs) (subst (AreTiled 0 len) (split_one xs p m inside is) tiled)).1
 
 -- an entry is what the run says that it stands in
-pub entry_here : (it : Table) (p k : ℕ) (m : Run) → p < length it.runs.items → m ≡ get_or it.runs.items p m → m.first ≤ k → k < start_of it.len (drop (p + 1) it.runs.items)
-    → slice_index (entries_of it) k ≡ entry_in m.kind (start_of it.len (drop (p + 1) it.runs.items)) k
+pub entry_here : (it : Table) (p k : ℕ) (m : Run) → p < length (all_runs it.runs) → m ≡ get_or (all_runs it.runs) p m → m.first ≤ k → k < start_of it.len (drop (p + 1) (all_runs it.runs))
+    → slice_index (entries_of it) k ≡ entry_in m.kind (start_of it.len (drop (p + 1) (all_runs it.runs))) k
 entry_here it p k m inside is from to =
-    let xs = it.runs.items in
+    let xs = (all_runs it.runs) in
     let s = start_of it.len (drop (p + 1) xs) in
     let most = stop_least it.len p xs m it.tiled inside is in
     entry_of it k (omega (arith, to, most)) ∙ found_at it.len k p xs m it.tiled inside (subst (λ (x : Run). x.first ≤ k) is from) to ∙ ap (λ (x : Run). entry_in x.kind s k) (sym is)
@@ -40,18 +41,18 @@ not_free (Linked n) s k right few other is = ⊎_elim
     (λ off. let e : k + 1 ≡ free = sym (inner_entry n s k off.1) ∙ is in omega (arith, e, few))
     (eqb_tells (k + 1) s)
 
-pub none_free : (it : Table) (p k : ℕ) (m : Run) → p < length it.runs.items → m ≡ get_or it.runs.items p m → (m.kind ≡ Special free → ⊥) → m.first ≤ k → k < start_of it.len (drop (p + 1) it.runs.items)
+pub none_free : (it : Table) (p k : ℕ) (m : Run) → p < length (all_runs it.runs) → m ≡ get_or (all_runs it.runs) p m → (m.kind ≡ Special free → ⊥) → m.first ≤ k → k < start_of it.len (drop (p + 1) (all_runs it.runs))
     → slice_index (entries_of it) k ≡ free → ⊥
 none_free it p k m inside is other from to found =
-    let xs = it.runs.items in
+    let xs = (all_runs it.runs) in
     let most = stop_least it.len p xs m it.tiled inside is in
     let few = it.few in
     let right : IsRight m.kind = subst (λ (x : Run). IsRight x.kind) (sym is) (right_at 0 it.len p xs m it.tiled inside) in
     not_free m.kind (start_of it.len (drop (p + 1) xs)) k right (omega (arith, to, most, few)) other (sym (entry_here it p k m inside is from to) ∙ found)
 
-pub all_free : (it : Table) (p k : ℕ) (m : Run) → p < length it.runs.items → m ≡ get_or it.runs.items p m → m.kind ≡ Special free → m.first ≤ k → k < start_of it.len (drop (p + 1) it.runs.items)
+pub all_free : (it : Table) (p k : ℕ) (m : Run) → p < length (all_runs it.runs) → m ≡ get_or (all_runs it.runs) p m → m.kind ≡ Special free → m.first ≤ k → k < start_of it.len (drop (p + 1) (all_runs it.runs))
     → slice_index (entries_of it) k ≡ free
-all_free it p k m inside is same from to = entry_here it p k m inside is from to ∙ ap (λ kind. entry_in kind (start_of it.len (drop (p + 1) it.runs.items)) k) same
+all_free it p k m inside is same from to = entry_here it p k m inside is from to ∙ ap (λ kind. entry_in kind (start_of it.len (drop (p + 1) (all_runs it.runs))) k) same
 
 -- free entries are counted, and others aren't
 pub count_yes : (n s : ℕ) (xs : List ℕ) → s + n ≤ length xs → ((k : ℕ) → s ≤ k → k < s + n → get_or xs k 0 ≡ free)
@@ -92,13 +93,13 @@ pub leads_follow : (table : List ℕ) (s at next : ℕ) (old new : List ℕ) →
 leads_follow table s at next old new few leads f = subst (λ l. Leads table s l next) (sym f.added) (leads_along table s old f.more at next leads f.inside few f.on f.last)
 
 -- the free sectors of a run are counted
-pub begins_with : (it : Table) (p : ℕ) (m : Run) → p < length it.runs.items → m ≡ get_or it.runs.items p m → start_of it.len (drop p it.runs.items) ≡ m.first
-begins_with it p m inside is = start_some it.len p it.runs.items m inside ∙ ap (λ (x : Run). x.first) (sym is)
+pub begins_with : (it : Table) (p : ℕ) (m : Run) → p < length (all_runs it.runs) → m ≡ get_or (all_runs it.runs) p m → start_of it.len (drop p (all_runs it.runs)) ≡ m.first
+begins_with it p m inside is = start_some it.len p (all_runs it.runs) m inside ∙ ap (λ (x : Run). x.first) (sym is)
 
-pub counted_free : (it : Table) (p stop : ℕ) (m : Run) → p < length it.runs.items → m ≡ get_or it.runs.items p m → m.kind ≡ Special free → stop ≡ start_of it.len (drop (p + 1) it.runs.items)
-    → count_by (λ entry. nat_eq entry free) (take (start_of it.len (drop p it.runs.items)) (entries_of it)) + (stop - m.first) ≡ count_by (λ entry. nat_eq entry free) (take (start_of it.len (drop (p + 1) it.runs.items)) (entries_of it))
+pub counted_free : (it : Table) (p stop : ℕ) (m : Run) → p < length (all_runs it.runs) → m ≡ get_or (all_runs it.runs) p m → m.kind ≡ Special free → stop ≡ start_of it.len (drop (p + 1) (all_runs it.runs))
+    → count_by (λ entry. nat_eq entry free) (take (start_of it.len (drop p (all_runs it.runs))) (entries_of it)) + (stop - m.first) ≡ count_by (λ entry. nat_eq entry free) (take (start_of it.len (drop (p + 1) (all_runs it.runs))) (entries_of it))
 counted_free it p stop m inside is same is_stop =
-    let xs = it.runs.items in
+    let xs = (all_runs it.runs) in
     let some = run_some it.len p xs m it.tiled inside is in
     let most = stop_least it.len p xs m it.tiled inside is in
     let size = size_of it in
@@ -107,10 +108,10 @@ counted_free it p stop m inside is same is_stop =
     ∙ count_yes (stop - m.first) m.first (entries_of it) (omega (arith, end, most, size)) (λ k from to. all_free it p k m inside is same from (omega (arith, to, end)))
     ∙ ap (λ n. count_by (λ entry. nat_eq entry free) (take n (entries_of it))) end
 
-pub counted_none : (it : Table) (p : ℕ) (m : Run) → p < length it.runs.items → m ≡ get_or it.runs.items p m → (m.kind ≡ Special free → ⊥)
-    → count_by (λ entry. nat_eq entry free) (take (start_of it.len (drop p it.runs.items)) (entries_of it)) + 0 ≡ count_by (λ entry. nat_eq entry free) (take (start_of it.len (drop (p + 1) it.runs.items)) (entries_of it))
+pub counted_none : (it : Table) (p : ℕ) (m : Run) → p < length (all_runs it.runs) → m ≡ get_or (all_runs it.runs) p m → (m.kind ≡ Special free → ⊥)
+    → count_by (λ entry. nat_eq entry free) (take (start_of it.len (drop p (all_runs it.runs))) (entries_of it)) + 0 ≡ count_by (λ entry. nat_eq entry free) (take (start_of it.len (drop (p + 1) (all_runs it.runs))) (entries_of it))
 counted_none it p m inside is other =
-    let xs = it.runs.items in
+    let xs = (all_runs it.runs) in
     let stop = start_of it.len (drop (p + 1) xs) in
     let some = run_some it.len p xs m it.tiled inside is in
     let most = stop_least it.len p xs m it.tiled inside is in
@@ -124,9 +125,9 @@ counted_none it p m inside is other =
 pub counted_few : (it : Table) (n : ℕ) → count_by (λ entry. nat_eq entry free) (take n (entries_of it)) ≤ it.len
 counted_few it n = let size = size_of it in let few = count_by-le-length (λ entry. nat_eq entry free) (take n (entries_of it)) in let long = length-take n (entries_of it) in omega (arith, size, few, long)
 
-pub counted_all : (it : Table) (p : ℕ) → length it.runs.items ≤ p → count_by (λ entry. nat_eq entry free) (take (start_of it.len (drop p it.runs.items)) (entries_of it)) ≡ count_by (λ entry. nat_eq entry free) (entries_of it)
+pub counted_all : (it : Table) (p : ℕ) → length (all_runs it.runs) ≤ p → count_by (λ entry. nat_eq entry free) (take (start_of it.len (drop p (all_runs it.runs))) (entries_of it)) ≡ count_by (λ entry. nat_eq entry free) (entries_of it)
 counted_all it p past = let size = size_of it in
-    ap (λ n. count_by (λ entry. nat_eq entry free) (take n (entries_of it))) (start_none it.len p it.runs.items past) ∙ ap (count_by (λ entry. nat_eq entry free)) (take_all it.len (entries_of it) (omega (arith, size)))
+    ap (λ n. count_by (λ entry. nat_eq entry free) (take n (entries_of it))) (start_none it.len p (all_runs it.runs) past) ∙ ap (count_by (λ entry. nat_eq entry free)) (take_all it.len (entries_of it) (omega (arith, size)))
 
 pub unlike : (b : Bool) → b ≡ true → b ≡ false → ⊥
 unlike b so off = true≢false (sym so ∙ off)
@@ -144,25 +145,25 @@ range_pushed first sector old now new from was pushed =
     ∙ ap (λ l. old ++ l) (ap (λ x. range_with_len first (sector - first) ++ x ∷ []) (sym last) ∙ sym (range_more (sector - first) first) ∙ ap (range_with_len first) count)
 
 -- where a run leads
-pub follows_one : (it : Table) (p start number : ℕ) (m : Run) (old new : List ℕ) → p < length it.runs.items → m ≡ get_or it.runs.items p m → m.kind ≡ Special number → m.first ≤ start → start < start_of it.len (drop (p + 1) it.runs.items)
+pub follows_one : (it : Table) (p start number : ℕ) (m : Run) (old new : List ℕ) → p < length (all_runs it.runs) → m ≡ get_or (all_runs it.runs) p m → m.kind ≡ Special number → m.first ≤ start → start < start_of it.len (drop (p + 1) (all_runs it.runs))
     → new ≡ old ++ start ∷ [] → AreLinkedBehind (entries_of it) start number old new
 follows_one it p start number m old new inside is same from to added =
-    let most = stop_least it.len p it.runs.items m it.tiled inside is in
+    let most = stop_least it.len p (all_runs it.runs) m it.tiled inside is in
     let size = size_of it in
     let e : start + 0 ≡ start = omega arith in
     record {
       more = 0;
       inside = omega (arith, to, most, size);
       on = λ k less. absurd (omega (arith, less));
-      last = ap (slice_index (entries_of it)) e ∙ entry_here it p start m inside is from to ∙ ap (λ kind. entry_in kind (start_of it.len (drop (p + 1) it.runs.items)) start) same;
+      last = ap (slice_index (entries_of it)) e ∙ entry_here it p start m inside is from to ∙ ap (λ kind. entry_in kind (start_of it.len (drop (p + 1) (all_runs it.runs))) start) same;
       added = added;
     }
 
-pub follows_run : (it : Table) (p start next stop : ℕ) (m : Run) (old new : List ℕ) → p < length it.runs.items → m ≡ get_or it.runs.items p m → m.kind ≡ Linked next → m.first ≤ start → start < start_of it.len (drop (p + 1) it.runs.items)
-    → stop ≡ start_of it.len (drop (p + 1) it.runs.items) → new ≡ old ++ range_with_len start (stop - start) → AreLinkedBehind (entries_of it) start next old new
+pub follows_run : (it : Table) (p start next stop : ℕ) (m : Run) (old new : List ℕ) → p < length (all_runs it.runs) → m ≡ get_or (all_runs it.runs) p m → m.kind ≡ Linked next → m.first ≤ start → start < start_of it.len (drop (p + 1) (all_runs it.runs))
+    → stop ≡ start_of it.len (drop (p + 1) (all_runs it.runs)) → new ≡ old ++ range_with_len start (stop - start) → AreLinkedBehind (entries_of it) start next old new
 follows_run it p start next stop m old new inside is same from to is_stop added =
-    let s = start_of it.len (drop (p + 1) it.runs.items) in
-    let most = stop_least it.len p it.runs.items m it.tiled inside is in
+    let s = start_of it.len (drop (p + 1) (all_runs it.runs)) in
+    let most = stop_least it.len p (all_runs it.runs) m it.tiled inside is in
     let size = size_of it in
     let count : stop - start ≡ suc (stop - start - 1) = omega (arith, to, is_stop) in
     record {

@@ -1,4 +1,5 @@
 pub mod Freeing
+pub mod Gaps
 pub mod Longest
 pub mod Props
 pub mod Runs

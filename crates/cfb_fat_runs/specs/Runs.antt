@@ -1,5 +1,5 @@
 -- The entries that runs stand for ([MS-CFB] 2.3).
-use Rattle.std.specs.Prelude.{◌≡◌, ◌≢◌, ℕ, ◌+◌, ◌<◌, nat_lt, if◌then◌else◌, ◌==◌, List, [], ◌∷◌, ◌++◌, drop, take}
+use Rattle.std.specs.Prelude.{◌≡◌, ◌≢◌, ℕ, ◌+◌, ◌<◌, nat_lt, if◌then◌else◌, ◌==◌, List, [], ◌∷◌}
 use Rattle.cfb_sectors.specs.Sectors.{end_of_chain, greatest_regular}
 use Rattle.cfb_fat_runs.specs.declared.runs.Kind.{Kind}
 use Rattle.cfb_fat_runs.specs.declared.runs.Kind.TheVariants.{Special, Linked}
@@ -46,7 +46,3 @@ head_of r i = record { first = r.first; kind = leading_to i r.kind }
 
 abbrev pub tail_of : Run → ℕ → Run
 tail_of r i = record { first = i; kind = r.kind }
-
--- runs that are joined as far as the one in front of a place, of which the last one stands here
-abbrev pub half_joined : ℕ → ℕ → List Run → List Run
-half_joined last index runs = take (last + 1) runs ++ drop index runs

@@ -1,11 +1,11 @@
 //! Sectors that are freed, a stretch of consecutive ones at a time ([MS-CFB] 2.3).
 ghost use Rattle.cfb_fat_runs.specs.Freeing.{stretches, FreesFatEntries, FreesFrom};
+ghost use Rattle.cfb_fat_runs.specs.Gaps.{all_runs};
 ghost use Rattle.cfb_fat_runs.specs.Runs.{start_of};
 ghost use Rattle.cfb_fat_runs.specs.declared.runs.Run.{Run as IsRun};
 ghost use Rattle.std.specs.Prelude.{drop, length, slice_index, slice_index_or, ℕ, ◌*◌, ◌+◌, ◌<◌, ◌≡◌, ◌≤◌, ◌⊎◌};
 
-use crate::joining::join_runs;
-use crate::runs::Kind;
+use crate::runs::{Kind, Run};
 use crate::table::Table;
 use cfb_sectors::FREE_SECTOR;
 
@@ -48,14 +48,14 @@ impl Table {
 
     // Cuts the run at a position in front of a sector, where it goes on from there.
     fn stop_at(&mut self, position: usize, at: u32, stop: u32)
-        requires inside { position < length self.old.runs.items }
-        requires first { (d : IsRun) → (slice_index_or self.old.runs.items position d).first ≡ at }
+        requires inside { position < length (all_runs self.old.runs) }
+        requires first { (d : IsRun) → (slice_index_or (all_runs self.old.runs) position d).first ≡ at }
         requires some { at < stop }
         requires room { run_count self.old < run_capacity self.old }
-        ensures inside { position < length self.new.runs.items }
-        ensures first { (d : IsRun) → (slice_index_or self.new.runs.items position d).first ≡ at }
-        ensures most { start_of self.new.len (drop (position + 1) self.new.runs.items) ≤ stop }
-        ensures cut { start_of self.new.len (drop (position + 1) self.new.runs.items) < stop
+        ensures inside { position < length (all_runs self.new.runs) }
+        ensures first { (d : IsRun) → (slice_index_or (all_runs self.new.runs) position d).first ≡ at }
+        ensures most { start_of self.new.len (drop (position + 1) (all_runs self.new.runs)) ≤ stop }
+        ensures cut { start_of self.new.len (drop (position + 1) (all_runs self.new.runs)) < stop
             → run_count self.new ≡ run_count self.old }
         ensures entries { entries_of self.new ≡ entries_of self.old }
         ensures runs { run_count self.new ≤ run_count self.old + 1 }
@@ -69,31 +69,36 @@ impl Table {
 
     // Frees all sectors of the run at a position.
     fn mark(&mut self, position: usize, at: u32)
-        requires inside { position < length self.old.runs.items }
-        requires first { (d : IsRun) → (slice_index_or self.old.runs.items position d).first ≡ at }
+        requires inside { position < length (all_runs self.old.runs) }
+        requires first { (d : IsRun) → (slice_index_or (all_runs self.old.runs) position d).first ≡ at }
         ensures frees { FreesFrom at
-            (start_of self.old.len (drop (position + 1) self.old.runs.items))
+            (start_of self.old.len (drop (position + 1) (all_runs self.old.runs)))
             (entries_of self.old) (entries_of self.new) }
-        ensures after { at < start_of self.old.len (drop (position + 1) self.old.runs.items) }
-        ensures stop { start_of self.new.len (drop (position + 1) self.new.runs.items)
-            ≡ start_of self.old.len (drop (position + 1) self.old.runs.items) }
+        ensures after { at < start_of self.old.len (drop (position + 1) (all_runs self.old.runs)) }
+        ensures stop { start_of self.new.len (drop (position + 1) (all_runs self.new.runs))
+            ≡ start_of self.old.len (drop (position + 1) (all_runs self.old.runs)) }
         ensures runs { run_count self.new ≡ run_count self.old }
         ensures capacity { run_capacity self.new ≡ run_capacity self.old }
     {
-        self.runs[position].kind = Kind::Special(FREE_SECTOR);
+        let run = self.runs.get(position);
+        let free = Run {
+            first: run.first,
+            kind: Kind::Special(FREE_SECTOR),
+        };
+        self.runs.set(position, free);
     }
 
     // Frees the run at a position up to a sector, and gives where it ends.
     fn free_run(&mut self, position: usize, at: u32, stop: u32) -> u32
-        requires inside { position < length self.old.runs.items }
-        requires first { (d : IsRun) → (slice_index_or self.old.runs.items position d).first ≡ at }
+        requires inside { position < length (all_runs self.old.runs) }
+        requires first { (d : IsRun) → (slice_index_or (all_runs self.old.runs) position d).first ≡ at }
         requires some { at < stop }
         requires room { run_count self.old < run_capacity self.old }
         ensures frees { FreesFrom at result (entries_of self.old) (entries_of self.new) }
         ensures after { at < result }
         ensures most { result ≤ stop }
-        ensures next { start_of self.new.len (drop (position + 1) self.new.runs.items) ≡ result }
-        ensures inside { position < length self.new.runs.items }
+        ensures next { start_of self.new.len (drop (position + 1) (all_runs self.new.runs)) ≡ result }
+        ensures inside { position < length (all_runs self.new.runs) }
         ensures cut { result < stop → run_count self.new ≡ run_count self.old }
         ensures runs { run_count self.new ≤ run_count self.old + 1 }
         ensures capacity { run_capacity self.new ≡ run_capacity self.old }
@@ -121,13 +126,24 @@ impl Table {
         }
     }
 
-    // Joins runs wherever one leads on to the next. The entries stay.
-    fn join_all(&mut self)
+    // Joins runs wherever one leads on to the next, from the sector in front of one up to another one. The entries stay.
+    fn join_between(&mut self, low: u32, high: u32)
         ensures entries { entries_of self.new ≡ entries_of self.old }
         ensures runs { run_count self.new ≤ run_count self.old }
         ensures capacity { run_capacity self.new ≡ run_capacity self.old }
     {
-        join_runs(&mut self.runs);
+        if self.len == 0 {
+            return;
+        }
+        let mut position = self.find(high.min(self.len - 1));
+        while position > 0 {
+            position -= 1;
+            let first = self.runs.get(position).first;
+            self.join(position);
+            if first < low {
+                return;
+            }
+        }
     }
 
     /// Frees these sectors, for which there is memory: of a run, and of each stretch of consecutive sectors, all at once.
@@ -142,9 +158,10 @@ impl Table {
         let mut place = 0;
         while place < sectors.len() {
             let next = stretch_end(sectors, place);
-            self.free_stretch(sectors[place], sectors[next - 1] + 1);
+            let stop = sectors[next - 1] + 1;
+            self.free_stretch(sectors[place], stop);
+            self.join_between(sectors[place], stop);
             place = next;
         }
-        self.join_all();
     }
 }

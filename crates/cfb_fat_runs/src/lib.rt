@@ -2,7 +2,7 @@
 #![tactic(auto)]
 
 mod freeing;
-mod joining;
+mod gaps;
 mod runs;
 mod table;
 mod telling;

@@ -1,5 +1,6 @@
 //! What is told of a table's runs, joined wherever one leads on to the next ([MS-CFB] 2.3).
 ghost use Rattle.cfb_fat_runs.specs.Longest.{begins_run, goes_on, runs_in, IsRunOf};
+ghost use Rattle.cfb_fat_runs.specs.Gaps.{all_runs};
 ghost use Rattle.cfb_fat_runs.specs.Runs.{start_of};
 ghost use Rattle.std.specs.List.{count_by, range_with_len};
 ghost use Rattle.std.specs.Prelude.{drop, false, length, not, take, true, MatchOption, IsTrue, ℕ, ◌+◌, ◌-◌, ◌<◌, ◌≡◌, ◌≤◌};
@@ -13,27 +14,27 @@ impl Table {
 
     // Whether the run at a position is joined with the one in front of it.
     fn is_joined(&self, position: usize) -> bool
-        requires { position < length self.now.runs.items }
+        requires { position < length (all_runs self.now.runs) }
         ensures begins { begins_run (entries_of self.now)
-            (start_of self.now.len (drop position self.now.runs.items)) ≡ not result }
+            (start_of self.now.len (drop position (all_runs self.now.runs))) ≡ not result }
         ensures front { IsTrue result → 0 < position }
     {
         if position == 0 {
             return false;
         }
-        let front = self.runs[position - 1];
-        let run = self.runs[position];
+        let front = self.runs.get(position - 1);
+        let run = self.runs.get(position);
         leads_on(front.kind, run.first, run.kind)
     }
 
     // How many runs begin at a position: one, or none where it is joined with the one in front.
     fn begun(&self, position: usize) -> usize
-        requires { position < length self.now.runs.items }
+        requires { position < length (all_runs self.now.runs) }
         ensures value { count_by (begins_run (entries_of self.now))
-            (take (start_of self.now.len (drop position self.now.runs.items))
+            (take (start_of self.now.len (drop position (all_runs self.now.runs)))
             (range_with_len 0 (length (entries_of self.now)))) + result
             ≡ count_by (begins_run (entries_of self.now))
-            (take (start_of self.now.len (drop (position + 1) self.now.runs.items))
+            (take (start_of self.now.len (drop (position + 1) (all_runs self.now.runs)))
             (range_with_len 0 (length (entries_of self.now)))) }
         ensures one { result ≤ 1 }
     {
@@ -56,14 +57,14 @@ impl Table {
 
     // The first position of the runs that are joined with the one at a position from in front.
     fn first_joined(&self, position: usize) -> usize
-        requires { position < length self.now.runs.items }
+        requires { position < length (all_runs self.now.runs) }
         ensures inside { result ≤ position }
-        ensures from { start_of self.now.len (drop result self.now.runs.items)
-            ≤ start_of self.now.len (drop position self.now.runs.items) }
+        ensures from { start_of self.now.len (drop result (all_runs self.now.runs))
+            ≤ start_of self.now.len (drop position (all_runs self.now.runs)) }
         ensures begins { begins_run (entries_of self.now)
-            (start_of self.now.len (drop result self.now.runs.items)) ≡ true }
-        ensures on { (k : ℕ) → start_of self.now.len (drop result self.now.runs.items) ≤ k
-            → k + 1 < start_of self.now.len (drop (position + 1) self.now.runs.items)
+            (start_of self.now.len (drop result (all_runs self.now.runs))) ≡ true }
+        ensures on { (k : ℕ) → start_of self.now.len (drop result (all_runs self.now.runs)) ≤ k
+            → k + 1 < start_of self.now.len (drop (position + 1) (all_runs self.now.runs))
             → goes_on (entries_of self.now) k ≡ true }
     {
         let mut first = position;
@@ -75,14 +76,14 @@ impl Table {
 
     // The last position of the runs that are joined with the one at a position from behind.
     fn last_joined(&self, position: usize) -> usize
-        requires { position < length self.now.runs.items }
-        ensures inside { result < length self.now.runs.items }
-        ensures to { start_of self.now.len (drop (position + 1) self.now.runs.items)
-            ≤ start_of self.now.len (drop (result + 1) self.now.runs.items) }
+        requires { position < length (all_runs self.now.runs) }
+        ensures inside { result < length (all_runs self.now.runs) }
+        ensures to { start_of self.now.len (drop (position + 1) (all_runs self.now.runs))
+            ≤ start_of self.now.len (drop (result + 1) (all_runs self.now.runs)) }
         ensures ends { goes_on (entries_of self.now)
-            (start_of self.now.len (drop (result + 1) self.now.runs.items) - 1) ≡ false }
-        ensures on { (k : ℕ) → start_of self.now.len (drop position self.now.runs.items) ≤ k
-            → k + 1 < start_of self.now.len (drop (result + 1) self.now.runs.items)
+            (start_of self.now.len (drop (result + 1) (all_runs self.now.runs)) - 1) ≡ false }
+        ensures on { (k : ℕ) → start_of self.now.len (drop position (all_runs self.now.runs)) ≤ k
+            → k + 1 < start_of self.now.len (drop (result + 1) (all_runs self.now.runs))
             → goes_on (entries_of self.now) k ≡ true }
     {
         let mut last = position;
@@ -105,7 +106,7 @@ impl Table {
             return None;
         }
         let position = self.find(sector);
-        let first = self.runs[self.first_joined(position)].first;
+        let first = self.runs.get(self.first_joined(position)).first;
         let stop = self.end(self.last_joined(position));
         Some((first, stop - first, self.entry((stop - 1) as usize)))
     }

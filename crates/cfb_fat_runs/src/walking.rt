@@ -1,5 +1,6 @@
 //! Walks over runs: chains, and sectors that are free ([MS-CFB] 2.3).
 ghost use Rattle.cfb_medium.specs.declared.error.Error.TheVariants.{InvalidData, Memory};
+ghost use Rattle.cfb_fat_runs.specs.Gaps.{all_runs};
 ghost use Rattle.cfb_fat_runs.specs.Runs.{start_of};
 ghost use Rattle.cfb_sectors.specs.Sectors.{free, greatest_regular, Chain as IsChain};
 ghost use Rattle.std.specs.List.{count_by, range_with_len};
@@ -30,14 +31,14 @@ impl Table {
 
     // How many sectors of the run at a position are free.
     fn free_in(&self, position: usize) -> usize
-        requires { position < length self.now.runs.items }
+        requires { position < length (all_runs self.now.runs) }
         ensures { count_by (λ entry. nat_eq entry free)
-            (take (start_of self.now.len (drop position self.now.runs.items)) (entries_of self.now))
+            (take (start_of self.now.len (drop position (all_runs self.now.runs))) (entries_of self.now))
             + result ≡ count_by (λ entry. nat_eq entry free)
-            (take (start_of self.now.len (drop (position + 1) self.now.runs.items))
+            (take (start_of self.now.len (drop (position + 1) (all_runs self.now.runs)))
             (entries_of self.now)) }
     {
-        let run = self.runs[position];
+        let run = self.runs.get(position);
         if is_free(run.kind) {
             return (self.end(position) - run.first) as usize;
         }
@@ -68,13 +69,13 @@ impl Table {
             return None;
         }
         let found = self.find(from as u32);
-        let holder = self.runs[found];
+        let holder = self.runs.get(found);
         if is_free(holder.kind) {
             return Some(from);
         }
         let mut position = found + 1;
         while position < self.runs.len() {
-            let run = self.runs[position];
+            let run = self.runs.get(position);
             if is_free(run.kind) {
                 return Some(run.first as usize);
             }
@@ -91,7 +92,7 @@ impl Table {
     {
         let position = self.find(start);
         let stop = self.end(position);
-        match self.runs[position].kind {
+        match self.runs.get(position).kind {
             Kind::Special(number) => {
                 sectors.push(start)?;
                 Ok(number)

@@ -49,6 +49,9 @@ returns-in-Err-set_place-clause-error_contract g c =
       fault = ⊎_elim (λ fault. inl fault) (⊎_elim (λ is. inr is) (λ large. absurd (let past = told.large (ap Err large) in omega (arith, past)))) told.errors;
     }
 
+pub returns-in-Err-set_place-clause-invariants : goal.returns-in-Err-set_place-clause-invariants
+returns-in-Err-set_place-clause-invariants g c = goes_then _ _ _ c.free_stream.ensures.invariants c.set_place.ensures.invariants
+
 pub returns-clause-emptied : goal.returns-clause-emptied
 returns-clause-emptied g c = λ letters tree path content at.
     let it = c.args.mini.now in

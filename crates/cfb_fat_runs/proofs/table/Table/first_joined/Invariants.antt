@@ -1,4 +1,5 @@
 use Rattle.std.proofs.Common.{◌≡◌, ℕ, ◌+◌, ◌<◌, ◌≤◌, drop, true}
+use Rattle.cfb_fat_runs.specs.Gaps.{all_runs}
 use Rattle.cfb_fat_runs.specs.Longest.{goes_on}
 use Rattle.cfb_fat_runs.specs.Runs.{start_of}
 use Rattle.cfb_fat_runs.specs.Tables.{entries_of}
@@ -7,8 +8,8 @@ use Rattle.cfb_fat_runs.proofs.table.Table.first_joined.Given as goal
 abbrev pub invariant-loop-first : goal.invariant-loop-first
 invariant-loop-first l = record {
   inside : l.first ≤ l.position;
-  from : start_of l.self.len (drop l.first l.self.runs.items) ≤ start_of l.self.len (drop l.position l.self.runs.items);
-  on : (k : ℕ) → start_of l.self.len (drop l.first l.self.runs.items) ≤ k → k + 1 < start_of l.self.len (drop (l.position + 1) l.self.runs.items) → goes_on (entries_of l.self) k ≡ true;
+  from : start_of l.self.len (drop l.first (all_runs l.self.runs)) ≤ start_of l.self.len (drop l.position (all_runs l.self.runs));
+  on : (k : ℕ) → start_of l.self.len (drop l.first (all_runs l.self.runs)) ≤ k → k + 1 < start_of l.self.len (drop (l.position + 1) (all_runs l.self.runs)) → goes_on (entries_of l.self) k ≡ true;
 }
 
 abbrev pub decreases-loop-first : goal.decreases-loop-first

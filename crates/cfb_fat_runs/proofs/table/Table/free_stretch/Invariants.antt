@@ -1,4 +1,5 @@
 use Rattle.std.proofs.Common.{◌≡◌, ◌+◌, ◌-◌, ◌<◌, ◌≤◌, drop, length}
+use Rattle.cfb_fat_runs.specs.Gaps.{all_runs}
 use Rattle.cfb_fat_runs.specs.Freeing.{FreesFrom}
 use Rattle.cfb_fat_runs.specs.Runs.{start_of}
 use Rattle.cfb_fat_runs.specs.Tables.{entries_of, run_capacity, run_count}
@@ -9,8 +10,8 @@ invariant-loop-at l = record {
   frees : FreesFrom l.first l.at (entries_of l.fn.self) (entries_of l.self);
   from : l.first ≤ l.at;
   most : l.at ≤ l.stop;
-  begins : start_of l.self.len (drop l.position l.self.runs.items) ≡ l.at;
-  inside : l.position ≤ length l.self.runs.items;
+  begins : start_of l.self.len (drop l.position (all_runs l.self.runs)) ≡ l.at;
+  inside : l.position ≤ length (all_runs l.self.runs);
   room : l.at < l.stop → run_count l.self ≤ run_count l.fn.self + 1;
   runs : run_count l.self ≤ run_count l.fn.self + 2;
   capacity : run_capacity l.self ≡ run_capacity l.fn.self;

@@ -1,22 +1,24 @@
-use Rattle.std.proofs.Common.{sym, ◌∙◌, arith}
-use Rattle.cfb_fat_runs.specs.Runs.{entry_at}
+use Rattle.std.proofs.Common.{sym, subst, ◌∙◌, arith}
+use Rattle.cfb_fat_runs.specs.Gaps.{all_runs}
+use Rattle.cfb_fat_runs.specs.Runs.{entry_at, AreTiled}
 use Rattle.cfb_fat_runs.specs.Tables.{entries_of}
-use Rattle.cfb_fat_runs.proofs.Edited.{relink_made, set_entries, stop_least}
+use Rattle.cfb_fat_runs.proofs.Edited.{relink_made, set_entries, stop_least, EditsRuns}
 use Rattle.cfb_fat_runs.proofs.table.Table.relink.Goals as goal
 
 pub invariant_of-self : goal.invariant_of-self
 invariant_of-self c =
     let it = c.args.self.now in
-    let m = c.index_mut.result.now in
-    let did = relink_made it.len c.args.position c.args.at c.args.entry it.runs.items m it.tiled c.requires.inside c.index_mut.ensures.value (c.requires.from m) c.requires.last (c.requires.linked m) c.requires.sector in
-    record { tiled = did.tiled; few = it.few }
+    let m = c.get-run.result in
+    let did = relink_made it.len c.args.position c.args.at c.args.entry (all_runs it.runs) m it.tiled c.requires.inside c.get-run.ensures (c.requires.from m) c.requires.last (c.requires.linked m) c.requires.sector in
+    record { tiled = subst (AreTiled 0 it.len) (sym c.set.ensures.runs) did.tiled; few = it.few }
 
 pub returns-clause-entries : goal.returns-clause-entries
 unfolding entries_of
 returns-clause-entries c =
     let it = c.args.self.now in
-    let m = c.index_mut.result.now in
-    let did = relink_made it.len c.args.position c.args.at c.args.entry it.runs.items m it.tiled c.requires.inside c.index_mut.ensures.value (c.requires.from m) c.requires.last (c.requires.linked m) c.requires.sector in
+    let m = c.get-run.result in
+    let did = relink_made it.len c.args.position c.args.at c.args.entry (all_runs it.runs) m it.tiled c.requires.inside c.get-run.ensures (c.requires.from m) c.requires.last (c.requires.linked m) c.requires.sector in
+    let now : EditsRuns it.len c.args.at c.args.entry (all_runs it.runs) (all_runs c.set.new.self) = subst (EditsRuns it.len c.args.at c.args.entry (all_runs it.runs)) (sym c.set.ensures.runs) did in
     let stop = c.requires.last in
-    let least = stop_least it.len c.args.position it.runs.items m it.tiled c.requires.inside c.index_mut.ensures.value in
-    c.join.ensures.entries ∙ sym (set_entries it.len c.args.at c.args.entry (entry_at it.len it.runs.items) _ (omega (arith, stop, least)) did.here did.others)
+    let least = stop_least it.len c.args.position (all_runs it.runs) m it.tiled c.requires.inside c.get-run.ensures in
+    c.join.ensures.entries ∙ sym (set_entries it.len c.args.at c.args.entry (entry_at it.len (all_runs it.runs)) (entry_at it.len (all_runs c.set.new.self)) (omega (arith, stop, least)) now.here now.others)

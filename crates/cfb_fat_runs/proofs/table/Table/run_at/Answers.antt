@@ -1,6 +1,7 @@
 use Rattle.std.proofs.Common.{◌≡◌, ◌+◌, ◌-◌, drop, sym, ap, ◌∙◌, arith, ⊎_elim}
 use Rattle.std.specs.Prelude.{slice_index, slice_index_or}
 use Rattle.std.proofs.lemmas.Bool.{cases_lt}
+use Rattle.cfb_fat_runs.specs.Gaps.{all_runs}
 use Rattle.cfb_fat_runs.specs.Longest.{begins_run, goes_on}
 use Rattle.cfb_fat_runs.specs.Runs.{start_of}
 use Rattle.cfb_fat_runs.specs.Tables.{entries_of}
@@ -15,14 +16,14 @@ returns-then-sector-self c = let size = size_of c.args.self.now in omega (arith,
 pub overflow_sub-result : goal.overflow_sub-result
 overflow_sub-result c =
     let it = c.args.self.now in
-    let xs = it.runs.items in
+    let xs = (all_runs it.runs) in
     let p = c.find-position.result in
     let found = c.find-position.ensures in
     let front = c.first_joined.ensures in
-    let m = c.index.result.now in
+    let m = c.get-first.result in
     let r = slice_index_or xs p m in
     let is_r = same_item xs p m r found.inside in
-    let at_f = begins_with it c.first_joined.result m (omega (arith, front.inside, found.inside)) c.index.ensures in
+    let at_f = begins_with it c.first_joined.result m (omega (arith, front.inside, found.inside)) c.get-first.ensures in
     let at_p = begins_with it p r found.inside is_r in
     let some = run_some it.len p xs r it.tiled found.inside is_r in
     omega (arith, at_f, at_p, front.from, some, c.last_joined.ensures.to, c.end-stop.ensures)
@@ -30,10 +31,10 @@ overflow_sub-result c =
 pub entry-requires : goal.entry-requires
 entry-requires c =
     let it = c.args.self.now in
-    let xs = it.runs.items in
+    let xs = (all_runs it.runs) in
     let l = c.last_joined.result in
     let inside = c.last_joined.ensures.inside in
-    let m = c.index.result.now in
+    let m = c.get-first.result in
     let n = slice_index_or xs l m in
     let is_n = same_item xs l m n inside in
     let some = run_some it.len l xs n it.tiled inside is_n in
@@ -44,7 +45,7 @@ entry-requires c =
 pub returns : goal.returns
 returns c =
     let it = c.args.self.now in
-    let xs = it.runs.items in
+    let xs = (all_runs it.runs) in
     let entries = entries_of it in
     let p = c.find-position.result in
     let l = c.last_joined.result in
@@ -52,12 +53,12 @@ returns c =
     let front = c.first_joined.ensures in
     let back = c.last_joined.ensures in
     let stop = c.end-stop.result in
-    let m = c.index.result.now in
+    let m = c.get-first.result in
     let r = slice_index_or xs p m in
     let is_r = same_item xs p m r found.inside in
     let n = slice_index_or xs l m in
     let is_n = same_item xs l m n back.inside in
-    let at_f = begins_with it c.first_joined.result m (omega (arith, front.inside, found.inside)) c.index.ensures in
+    let at_f = begins_with it c.first_joined.result m (omega (arith, front.inside, found.inside)) c.get-first.ensures in
     let at_p = begins_with it p r found.inside is_r in
     let some = run_some it.len p xs r it.tiled found.inside is_r in
     let more = run_some it.len l xs n it.tiled back.inside is_n in

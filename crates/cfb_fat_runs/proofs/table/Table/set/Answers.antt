@@ -1,4 +1,5 @@
 use Rattle.std.proofs.Common.{sym, ◌∙◌, arith, ⊎_elim}
+use Rattle.cfb_fat_runs.specs.Gaps.{all_runs}
 use Rattle.cfb_fat_runs.specs.declared.runs.Kind.TheVariants.{Linked}
 use Rattle.cfb_fat_runs.specs.declared.runs.Run.{Run}
 use Rattle.cfb_fat_runs.proofs.Edited.{found_at}
@@ -23,7 +24,7 @@ replace-requires-clause-room c =
     let d : Run = record { first = 0; kind = Linked 0 } in
     ⊎_elim
     (λ easy. absurd (c.is_last_link.ensures.other c.if-is_last_link.false d easy.1
-    (sym (found_at it.len c.args.index p it.runs.items d it.tiled found.inside (found.from d) found.to) ∙ sym (entry_of it c.args.index (omega (arith, c.requires.inside, size))) ∙ easy.0)))
+    (sym (found_at it.len c.args.index p (all_runs it.runs) d it.tiled found.inside (found.from d) found.to) ∙ sym (entry_of it c.args.index (omega (arith, c.requires.inside, size))) ∙ easy.0)))
     (λ room. room)
     c.requires.room
 
@@ -35,4 +36,4 @@ returns-clause-easy c = λ easy.
     let p = c.find-position.result in
     let d : Run = record { first = 0; kind = Linked 0 } in
     absurd (c.is_last_link.ensures.other c.if-is_last_link.false d easy.1
-    (sym (found_at it.len c.args.index p it.runs.items d it.tiled found.inside (found.from d) found.to) ∙ sym (entry_of it c.args.index (omega (arith, c.requires.inside, size))) ∙ easy.0))
+    (sym (found_at it.len c.args.index p (all_runs it.runs) d it.tiled found.inside (found.from d) found.to) ∙ sym (entry_of it c.args.index (omega (arith, c.requires.inside, size))) ∙ easy.0))

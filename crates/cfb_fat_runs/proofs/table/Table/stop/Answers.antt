@@ -1,5 +1,6 @@
 use Rattle.std.proofs.Common.{◌+◌, ◌∷◌, drop, ap, ◌∙◌}
 use Rattle.std.specs.Prelude.{slice_index_or}
+use Rattle.cfb_fat_runs.specs.Gaps.{all_runs}
 use Rattle.cfb_fat_runs.specs.Runs.{head_of, start_of, tail_of}
 use Rattle.cfb_fat_runs.specs.declared.runs.Kind.TheVariants.{Linked}
 use Rattle.cfb_fat_runs.specs.declared.runs.Run.{Run}
@@ -8,7 +9,7 @@ use Rattle.cfb_fat_runs.proofs.table.Table.stop.Goals as goal
 
 pub returns-clause-first : goal.returns-clause-first
 returns-clause-first c = λ d.
-    let xs = c.args.self.now.runs.items in
+    let xs = (all_runs c.args.self.now.runs) in
     let p = c.args.position in
     let i = c.args.at + 1 in
     let r = slice_index_or xs p d in
@@ -17,11 +18,11 @@ returns-clause-first c = λ d.
 pub returns-clause-one : goal.returns-clause-one
 returns-clause-one c =
     let it = c.args.self.now in
-    let xs = it.runs.items in
+    let xs = (all_runs it.runs) in
     let p = c.args.position in
     let i = c.args.at + 1 in
     let d : Run = record { first = 0; kind = Linked 0 } in
     let r = slice_index_or xs p d in
     let new = c.cut.new.self in
-    ap (λ n. start_of n (drop (p + 1) new.runs.items)) c.cut.ensures.len ∙ ap (λ l. start_of it.len (drop (p + 1) l)) (c.cut.ensures.parts r (same_item xs p d r c.requires.inside))
+    ap (λ n. start_of n (drop (p + 1) (all_runs new.runs))) c.cut.ensures.len ∙ ap (λ l. start_of it.len (drop (p + 1) l)) (c.cut.ensures.parts r (same_item xs p d r c.requires.inside))
     ∙ ap (start_of it.len) (drop_one xs (tail_of r i ∷ drop (p + 1) xs) p (head_of r i) c.requires.inside)
