@@ -1,31 +1,35 @@
 -- The pages of a map, as a list.
-use Rattle.std.proofs.Common.{inl, inr, ◌≡◌, ◌≢◌, ℕ, zero, suc, ◌+◌, ◌<◌, ◌≤◌, Bool, true, false, cond, List, [], ◌∷◌, length, map, take, drop, get_or, Option, Some, None, is_some, Bor, Ordering, Less, Equal, Greater, refl, sym, ◌∙◌, ap, add-one, arith, subst, length-drop, take-append-drop}
-use Rattle.std.specs.Prelude.{IsTrue, MatchOption}
-use Rattle.std.specs.Option.{option_or, option_copied}
+use Rattle.std.proofs.Common.{inl, inr, ◌≡◌, ◌≢◌, ℕ, zero, suc, ◌+◌, ◌<◌, ◌≤◌, Bool, true, false, cond, List, [], ◌∷◌, length, map, drop, get_or, Option, Some, None, is_some, Ordering, Less, Equal, Greater, refl, sym, ◌∙◌, ap, add-one, arith, subst, length-drop}
+use Rattle.std.specs.Prelude.{IsTrue}
+use Rattle.std.specs.Option.{option_or}
 use Rattle.std.specs.Ordering.{nat_cmp, is_eq, MatchOrdering}
+use Rattle.std.specs.Global.{Box}
 use Rattle.std.specs.Map.{lookup, keys_of}
 use Rattle.std.specs.List.Sorted.{IsStrictlySortedBy}
 use Rattle.std.specs.BTreeMap.{BTreeMap, IsOrdered, is_at}
-use Rattle.std.proofs.lemmas.Bool.{cases_eq}
-use Rattle.std.proofs.lemmas.Cmp.{ranked, nat_cmp_total}
+use Rattle.std.proofs.lemmas.Bool.{cases_eq, cases_lt}
+use Rattle.std.proofs.lemmas.Cmp.{ranked}
 use Rattle.std.proofs.lemmas.List.{length-map, get_or-map}
 use Rattle.std.proofs.lemmas.Map.Entries.{lookup_head, lookup_tail}
 use Rattle.std.proofs.lemmas.Map.Keys.{below_from_sorted}
-use Rattle.std.proofs.lemmas.Map.Lookups.{btree_map_from_get, exact_unsigned}
 use Rattle.staged.specs.Pages.{page_at, HoldsPage, Rises}
 use Rattle.staged.specs.declared.pages.Page.{Page}
 use Rattle.staged.proofs.Homed.{held_at}
-use Rattle.staged.proofs.Found.{at_head, at_tail, at_append, keeps_first, take_one, or_none, none_left}
+use Rattle.staged.proofs.Found.{at_head, at_tail, at_none, keeps_first, or_none}
 
 -- a number and the bytes of its page
 abbrev pub Entry : Type 0
-Entry = ℕ × List ℕ
+Entry = ℕ × Box (List ℕ)
 
 abbrev pub as_page : Entry → Page
-as_page entry = record { number = entry.0; bytes = entry.1 }
+as_page entry = record { number = entry.0; bytes = entry.1.value }
 
 abbrev pub as_pages : List Entry → List Page
-as_pages entries = map (λ entry. record { number = entry.0; bytes = entry.1 }) entries
+as_pages entries = map (λ (entry : Entry). record { number = entry.0; bytes = entry.1.value }) entries
+
+abbrev pub opened : Option (Box (List ℕ)) → Option (List ℕ)
+opened None = None
+opened (Some page) = Some page.value
 
 told : (n m : ℕ) (r : Ordering) → MatchOrdering r (n < m) (n ≡ m) (m < n) → (m ≡ n → is_eq r ≡ true) × (m ≢ n → is_eq r ≡ false)
 told n m Less is = (λ same. absurd (omega (arith, is, same)), λ other. refl)
@@ -39,21 +43,16 @@ pub is_other : (n m : ℕ) → m ≢ n → is_eq (nat_cmp n m) ≡ false
 is_other n m other = (told n m (nat_cmp n m) (ranked n m (nat_cmp n m) refl)).1 other
 
 -- the page of a number is what the map has there
-pub at_entry : (entries : List Entry) (n : ℕ) → page_at (as_pages entries) n ≡ lookup (is_at (nat_cmp n)) entries
+pub at_entry : (entries : List Entry) (n : ℕ) → page_at (as_pages entries) n ≡ opened (lookup (is_at (nat_cmp n)) entries)
 at_entry [] n = refl
 at_entry (e ∷ es) n = elim (cases_eq e.0 n) [
-  | inl same ↦ at_head (as_page e) (as_pages es) n same ∙ sym (lookup_head (is_at (nat_cmp n)) e es (is_same n e.0 same))
-  | inr other ↦ at_tail (as_page e) (as_pages es) n other ∙ at_entry es n ∙ sym (lookup_tail (is_at (nat_cmp n)) e es (is_other n e.0 other))
+  | inl same ↦ at_head (as_page e) (as_pages es) n same ∙ sym (ap opened (lookup_head (is_at (nat_cmp n)) e es (is_same n e.0 same)))
+  | inr other ↦ at_tail (as_page e) (as_pages es) n other ∙ at_entry es n ∙ sym (ap opened (lookup_tail (is_at (nat_cmp n)) e es (is_other n e.0 other)))
 ]
 
-pub matched : (found : Option (Bor (List ℕ))) (p q : Option (List ℕ)) → p ≡ q → option_copied found ≡ q → MatchOption found (p ≡ None) (λ page. p ≡ Some page.now)
-matched None p q same is = same ∙ sym is
-matched (Some page) p q same is = same ∙ sym is
-
-pub rises_listed : (entries : List Entry) → IsStrictlySortedBy nat_cmp (keys_of entries) → Rises (as_pages entries)
-rises_listed entries sorted = record {
+rises_by : (none : Entry) (entries : List Entry) → IsStrictlySortedBy nat_cmp (keys_of entries) → Rises (as_pages entries)
+rises_by none entries sorted = record {
   rising = λ i j d less within.
-      let none : Entry = (0, []) in
       let long : length (as_pages entries) ≡ length entries = length-map entries as_page in
       let size : length (keys_of entries) ≡ length entries = length-map entries (λ (e : Entry). e.0) in
       let last : j < length entries = omega arith in
@@ -66,70 +65,79 @@ rises_listed entries sorted = record {
       omega arith;
 }
 
+pub rises_listed : (entries : List Entry) → IsStrictlySortedBy nat_cmp (keys_of entries) → Rises (as_pages entries)
+rises_listed [] sorted = record { rising = λ i j d less within. absurd (omega arith) }
+rises_listed (e ∷ es) sorted = rises_by e (e ∷ es) sorted
+
 pub keeps_held : (pages : List Page) (page : Page) (p : Option (List ℕ)) → page_at pages page.number ≡ p → IsTrue (is_some p) → (n : ℕ) → page_at pages n ≡ option_or (page_at pages n) (page_at (page ∷ []) n)
 keeps_held pages page None is some n = absurd (cc some)
 keeps_held pages page (Some bytes) is some n = keeps_first pages page bytes is n
 
 -- a page was put into the map
-pub inserted : (old new : List Entry) (page : Page) → page_at (as_pages old) page.number ≡ None
-    → ((q : ℕ) → lookup (is_at (nat_cmp q)) new ≡ cond (is_at (nat_cmp page.number) q) (Some page.bytes) (lookup (is_at (nat_cmp q)) old))
+pub inserted : (old new : List Entry) (page : Page) (bytes : Box (List ℕ)) → bytes.value ≡ page.bytes → page_at (as_pages old) page.number ≡ None
+    → ((q : ℕ) → lookup (is_at (nat_cmp q)) new ≡ cond (is_at (nat_cmp page.number) q) (Some bytes) (lookup (is_at (nat_cmp q)) old))
     → (n : ℕ) → page_at (as_pages new) n ≡ option_or (page_at (as_pages old) n) (page_at (page ∷ []) n)
-inserted old new page none updates n = elim (cases_eq page.number n) [
+inserted old new page bytes held none updates n = elim (cases_eq page.number n) [
   | inl same ↦
       let gone : page_at (as_pages old) n ≡ None = subst (λ (m : ℕ). page_at (as_pages old) m ≡ None) same none in
-      at_entry new n ∙ updates n ∙ ap (λ (b : Bool). cond b (Some page.bytes) (lookup (is_at (nat_cmp n)) old)) (is_same page.number n (sym same))
+      at_entry new n ∙ ap opened (updates n) ∙ ap (λ (b : Bool). opened (cond b (Some bytes) (lookup (is_at (nat_cmp n)) old))) (is_same page.number n (sym same))
+      ∙ ap (λ (b : List ℕ). Some b) held
       ∙ sym (at_head page [] n same) ∙ ap (λ (p : Option (List ℕ)). option_or p (page_at (page ∷ []) n)) (sym gone)
   | inr other ↦
-      at_entry new n ∙ updates n ∙ ap (λ (b : Bool). cond b (Some page.bytes) (lookup (is_at (nat_cmp n)) old)) (is_other page.number n (λ same. other (sym same)))
+      at_entry new n ∙ ap opened (updates n) ∙ ap (λ (b : Bool). opened (cond b (Some bytes) (lookup (is_at (nat_cmp n)) old))) (is_other page.number n (λ same. other (sym same)))
       ∙ sym (at_entry old n) ∙ sym (or_none (page_at (as_pages old) n)) ∙ ap (λ (p : Option (List ℕ)). option_or (page_at (as_pages old) n) p) (sym (at_tail page [] n other))
 ]
 
--- a page was taken out
-pub removed : (start : Option (List ℕ)) (pages : List Page) (old new : List Entry) (k n : ℕ) (d : Page) → k < length pages
-    → page_at (as_pages old) n ≡ cond (is_some (page_at (take k pages) n)) None start
-    → ((q : ℕ) → lookup (is_at (nat_cmp q)) new ≡ cond (is_at (nat_cmp (get_or pages k d).number) q) None (lookup (is_at (nat_cmp q)) old))
-    → page_at (as_pages new) n ≡ cond (is_some (page_at (take (k + 1) pages) n)) None start
-removed start pages old new k n d within so_far updates =
-    let page = get_or pages k d in
-    let more : page_at (take (k + 1) pages) n ≡ option_or (page_at (take k pages) n) (page_at (page ∷ []) n) = take_one pages k n d within in
-    let goes : page_at (as_pages new) n ≡ cond (is_at (nat_cmp page.number) n) None (cond (is_some (page_at (take k pages) n)) None start) =
-    at_entry new n ∙ updates n ∙ ap (λ (p : Option (List ℕ)). cond (is_at (nat_cmp page.number) n) None p) (sym (at_entry old n) ∙ so_far) in
-    elim (cases_eq page.number n) [
-      | inl same ↦
-          goes ∙ ap (λ (b : Bool). cond b None (cond (is_some (page_at (take k pages) n)) None start)) (is_same page.number n (sym same))
-          ∙ sym (ap (λ (p : Option (List ℕ)). cond (is_some p) None start) (more ∙ ap (λ (p : Option (List ℕ)). option_or (page_at (take k pages) n) p) (at_head page [] n same)) ∙ some_after (page_at (take k pages) n) page.bytes start)
-      | inr other ↦
-          goes ∙ ap (λ (b : Bool). cond b None (cond (is_some (page_at (take k pages) n)) None start)) (is_other page.number n (λ same. other (sym same)))
-          ∙ sym (ap (λ (p : Option (List ℕ)). cond (is_some p) None start) (more ∙ ap (λ (p : Option (List ℕ)). option_or (page_at (take k pages) n) p) (at_tail page [] n other) ∙ or_none (page_at (take k pages) n)))
-    ]
-  where
-    some_after : (p : Option (List ℕ)) (bytes : List ℕ) (q : Option (List ℕ)) → cond (is_some (option_or p (Some bytes))) None q ≡ None
-    some_after None bytes q = refl
-    some_after (Some page) bytes q = refl
+-- and one was taken out, or not
+pub opened_unless : (b : Bool) (p : Option (Box (List ℕ))) → opened (cond b None p) ≡ cond b None (opened p)
+opened_unless true p = refl
+opened_unless false p = refl
 
 pub none_of : (p : Option (List ℕ)) → is_some p ≡ false → p ≡ None
 none_of None is = refl
 none_of (Some page) is = absurd (cc is)
 
-pub some_of : (page : List ℕ) (p : Option (List ℕ)) → Some page ≡ p → is_some p ≡ true
-some_of page p is = sym (ap (λ (q : Option (List ℕ)). is_some q) is)
+pub some_of : {T : Type 0} (page : T) (p : Option T) → Some page ≡ p → is_some p ≡ true
+some_of {T} page p is = sym (ap (λ (q : Option T). is_some q) is)
+
+rises_tail : (page : Page) (pages : List Page) → Rises (page ∷ pages) → Rises pages
+rises_tail page pages rises = record { rising = λ i j d less within. rises.rising (suc i) (suc j) d (omega arith) (omega arith) }
+
+none_behind : (page : Page) (pages : List Page) (n : ℕ) → Rises (page ∷ pages) → n ≤ page.number → page_at pages n ≡ None
+none_behind page pages n rises most = at_none pages n (λ k d below.
+    let less : page.number < (get_or pages k d).number = rises.rising zero (suc k) d (omega arith) (omega arith) in
+    let e : (get_or pages k d).number ≢ n = omega arith in e)
+
+none_below : (page : Page) (pages : List Page) (n : ℕ) → Rises (page ∷ pages) → n < page.number → page_at (page ∷ pages) n ≡ None
+none_below page pages n rises less = at_tail page pages n (let e : page.number ≢ n = omega arith in e) ∙ none_behind page pages n rises (omega arith)
+
+none_some : (bytes : List ℕ) → None ≡ Some bytes → ⊥
+none_some bytes is = cc
+
+-- lists that rise and have the same pages are alike
+same_rising : (ps qs : List Page) → Rises ps → Rises qs → ((n : ℕ) → page_at ps n ≡ page_at qs n) → ps ≡ qs
+same_rising [] [] rises also same = refl
+same_rising [] (q ∷ qs) rises also same = absurd (none_some q.bytes (same q.number ∙ at_head q qs q.number refl))
+same_rising (p ∷ ps) [] rises also same = absurd (none_some p.bytes (sym (same p.number) ∙ at_head p ps p.number refl))
+same_rising (p ∷ ps) (q ∷ qs) rises also same =
+    let number : p.number ≡ q.number = elim (cases_lt p.number q.number) [
+      | inl less ↦ absurd (none_some p.bytes (sym (none_below q qs p.number also less) ∙ sym (same p.number) ∙ at_head p ps p.number refl))
+      | inr least ↦ elim (cases_lt q.number p.number) [
+        | inl less ↦ absurd (none_some q.bytes (sym (none_below p ps q.number rises less) ∙ same q.number ∙ at_head q qs q.number refl))
+        | inr most ↦ omega arith
+      ]
+    ] in
+    let found : Some p.bytes ≡ Some q.bytes = sym (at_head p ps p.number refl) ∙ same p.number ∙ at_head q qs p.number (sym number) in
+    let bytes : p.bytes ≡ q.bytes = cc in
+    let rest : ps ≡ qs = same_rising ps qs (rises_tail p ps rises) (rises_tail q qs also) (λ n. elim (cases_eq p.number n) [
+      | inl here ↦ none_behind p ps n rises (omega arith) ∙ sym (none_behind q qs n also (omega arith))
+      | inr other ↦ sym (at_tail p ps n other) ∙ same n ∙ at_tail q qs n (λ is. other (number ∙ is))
+    ]) in
+    λ i. record { number = number i; bytes = bytes i } ∷ rest i
 
 -- maps with the same pages are alike
-pub same_pages : (old new : BTreeMap ℕ (List ℕ)) → IsOrdered nat_cmp old → IsOrdered nat_cmp new → ((n : ℕ) → page_at (as_pages new.entries) n ≡ page_at (as_pages old.entries) n) → as_pages new.entries ≡ as_pages old.entries
-same_pages old new sorted also same = ap as_pages (btree_map_from_get nat_cmp_total new old also sorted (λ q. sym (at_entry new.entries q) ∙ same q ∙ at_entry old.entries q) exact_unsigned)
-
--- pages that weren't there were added as far as one, and taken out again
-pub undone : (old pages : List Page) (k n : ℕ) → (HoldsPage pages n → page_at old n ≡ None) → cond (is_some (page_at pages n)) None (option_or (page_at old n) (page_at (take k pages) n)) ≡ page_at old n
-undone old pages k n apart = by_case (page_at pages n) (page_at (take k pages) n) refl refl
-  where
-    by_case : (p q : Option (List ℕ)) → page_at pages n ≡ p → page_at (take k pages) n ≡ q → cond (is_some (page_at pages n)) None (option_or (page_at old n) (page_at (take k pages) n)) ≡ page_at old n
-    by_case None q is _ =
-        let parts : page_at pages n ≡ option_or (page_at (take k pages) n) (page_at (drop k pages) n) = ap (λ (ps : List Page). page_at ps n) (sym (take-append-drop k pages)) ∙ at_append (take k pages) (drop k pages) n in
-        ap (λ (p : Option (List ℕ)). cond (is_some p) None (option_or (page_at old n) (page_at (take k pages) n))) is
-        ∙ ap (λ (p : Option (List ℕ)). option_or (page_at old n) p) (none_left _ _ (sym parts ∙ is)) ∙ or_none (page_at old n)
-    by_case (Some page) q is _ =
-        ap (λ (p : Option (List ℕ)). cond (is_some p) None (option_or (page_at old n) (page_at (take k pages) n))) is
-        ∙ sym (apart (subst (λ (p : Option (List ℕ)). IsTrue (is_some p)) (sym is) refl))
+pub same_pages : (old new : BTreeMap ℕ (Box (List ℕ))) → IsOrdered nat_cmp old → IsOrdered nat_cmp new → ((n : ℕ) → page_at (as_pages new.entries) n ≡ page_at (as_pages old.entries) n) → as_pages new.entries ≡ as_pages old.entries
+same_pages old new sorted also same = same_rising (as_pages new.entries) (as_pages old.entries) (rises_listed new.entries also) (rises_listed old.entries sorted) same
 
 -- the next entry of a map that is gone through
 pub next_entry : (entries : List Entry) (k : ℕ) (entry : Entry) (rest : List Entry) → drop k entries ≡ entry ∷ rest

@@ -95,15 +95,15 @@ pub fn write_runs<D: Device>(device: &mut D, pages: &Pages, buffer: &mut [u8]) -
 }
 
 // A page of a run in the buffer, behind so many others.
-fn put_page(buffer: &mut [u8], index: u32, bytes: &[u8; 512])
+fn put_page(buffer: &mut [u8], index: u32, bytes: &Box<[u8; 512]>)
     requires { 12 + 512 * (index + 1) ≤ length buffer.old }
-    ensures whole { length bytes.now ≡ 512 }
+    ensures whole { length bytes.now.value ≡ 512 }
     ensures pasted { buffer.new
-        ≡ take (12 + 512 * index) buffer.old ++ bytes.now
+        ≡ take (12 + 512 * index) buffer.old ++ bytes.now.value
         ++ drop (12 + 512 * index + 512) buffer.old }
 {
     let place = RUN_HEAD + 512 * index as usize;
-    buffer[place..place + 512].copy_from_slice(bytes);
+    buffer[place..place + 512].copy_from_slice(&**bytes);
 }
 
 // Writes the pages of the buffer as one run: so many, from this number on.

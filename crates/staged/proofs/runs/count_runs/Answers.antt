@@ -17,7 +17,7 @@ pub goes_on-requires : goal.goes_on-requires
 goes_on-requires c =
     let entries = c.args.pages.now.entries.entries in
     let k = c.loop-number.invariant.0 in
-    let here = page_here entries k (page c.in-Some.number.now c.in-Some._bytes.now) none (c.in-Some.number.now, c.in-Some._bytes.now) c.next.new.self (c.loop-number.invariant.1 ∙ c.in-Some.ensures.steps) refl in
+    let here = page_here entries k (page c.in-Some.number.now c.in-Some._bytes.now.value) none (c.in-Some.number.now, c.in-Some._bytes.now) c.next.new.self (c.loop-number.invariant.1 ∙ c.in-Some.ensures.steps) refl in
     let held = held_at (listed c.args.pages.now) k none (rises_listed entries c.args.pages.now.ordered) here.0 in
     c.requires.small c.in-Some.number.now (subst (λ (p : Page). HoldsPage (listed c.args.pages.now) p.number) (sym here.1) held)
 
@@ -27,7 +27,7 @@ loop-number-preserved-then-not-goes_on c =
     let pages = listed c.args.pages.now in
     let k = c.loop-number.invariant.0 in
     let inv = c.loop-number.invariant.2 in
-    let here = page_here entries k (page c.in-Some.number.now c.in-Some._bytes.now) none (c.in-Some.number.now, c.in-Some._bytes.now) c.next.new.self (c.loop-number.invariant.1 ∙ c.in-Some.ensures.steps) refl in
+    let here = page_here entries k (page c.in-Some.number.now c.in-Some._bytes.now.value) none (c.in-Some.number.now, c.in-Some._bytes.now) c.next.new.self (c.loop-number.invariant.1 ∙ c.in-Some.ensures.steps) refl in
     let goes : (is_some (page_at pages (c.in-Some.number.now + 1)) && nat_lt (c.loop-number.count + 1) 4294967295) ≡ false = sym c.goes_on.ensures ∙ c.if-not-goes_on.true in
     let step = next_run pages k c.loop-number.count c.in-Some.number.now here.0 (ap (λ (p : Page). p.number) here.1) false goes in
     let total : c.loop-number.runs + runs_of pages c.loop-number.count (drop k pages) ≡ run_count pages = inv.counted in (
@@ -47,7 +47,7 @@ loop-number-preserved c =
     let pages = listed c.args.pages.now in
     let k = c.loop-number.invariant.0 in
     let inv = c.loop-number.invariant.2 in
-    let here = page_here entries k (page c.in-Some.number.now c.in-Some._bytes.now) none (c.in-Some.number.now, c.in-Some._bytes.now) c.next.new.self (c.loop-number.invariant.1 ∙ c.in-Some.ensures.steps) refl in
+    let here = page_here entries k (page c.in-Some.number.now c.in-Some._bytes.now.value) none (c.in-Some.number.now, c.in-Some._bytes.now) c.next.new.self (c.loop-number.invariant.1 ∙ c.in-Some.ensures.steps) refl in
     let goes : (is_some (page_at pages (c.in-Some.number.now + 1)) && nat_lt (c.loop-number.count + 1) 4294967295) ≡ true = sym c.goes_on.ensures ∙ c.if-not-goes_on.false in
     let step = next_run pages k c.loop-number.count c.in-Some.number.now here.0 (ap (λ (p : Page). p.number) here.1) true goes in (
       k + 1,

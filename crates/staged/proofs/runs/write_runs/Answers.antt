@@ -24,7 +24,7 @@ pub goes_on-requires : goal.goes_on-requires
 goes_on-requires g c =
     let entries = c.args.pages.now.entries.entries in
     let k = c.loop-number.invariant.0 in
-    let here = page_here entries k (page c.in-Some.number.now c.in-Some.bytes.now) none (c.in-Some.number.now, c.in-Some.bytes.now) c.next.new.self (c.loop-number.invariant.1 ∙ c.in-Some.ensures.steps) refl in
+    let here = page_here entries k (page c.in-Some.number.now c.in-Some.bytes.now.value) none (c.in-Some.number.now, c.in-Some.bytes.now) c.next.new.self (c.loop-number.invariant.1 ∙ c.in-Some.ensures.steps) refl in
     let held = held_at (listed c.args.pages.now) k none (rises_listed entries c.args.pages.now.ordered) here.0 in
     c.requires.numbers.1 c.in-Some.number.now (subst (λ (p : Page). HoldsPage (listed c.args.pages.now) p.number) (sym here.1) held)
 
@@ -34,7 +34,7 @@ put_page-requires g c =
     let pages = listed c.args.pages.now in
     let k = c.loop-number.invariant.0 in
     let inv = c.loop-number.invariant.3 in
-    let here = page_here entries k (page c.in-Some.number.now c.in-Some.bytes.now) none (c.in-Some.number.now, c.in-Some.bytes.now) c.next.new.self (c.loop-number.invariant.1 ∙ c.in-Some.ensures.steps) refl in
+    let here = page_here entries k (page c.in-Some.number.now c.in-Some.bytes.now.value) none (c.in-Some.number.now, c.in-Some.bytes.now) c.next.new.self (c.loop-number.invariant.1 ∙ c.in-Some.ensures.steps) refl in
     let within : k < length pages = here.0 in
     let some : 0 < length pages = omega arith in
     let room : 12 + 512 * length pages ≤ length c.args.buffer.now = c.requires.room some in
@@ -72,7 +72,7 @@ loop-number-preserved g c =
     let k = c.loop-number.invariant.0 in
     let runs = c.loop-number.invariant.2 in
     let inv = c.loop-number.invariant.3 in
-    let here = page_here entries k (page c.in-Some.number.now c.in-Some.bytes.now) none (c.in-Some.number.now, c.in-Some.bytes.now) c.next.new.self (c.loop-number.invariant.1 ∙ c.in-Some.ensures.steps) refl in
+    let here = page_here entries k (page c.in-Some.number.now c.in-Some.bytes.now.value) none (c.in-Some.number.now, c.in-Some.bytes.now) c.next.new.self (c.loop-number.invariant.1 ∙ c.in-Some.ensures.steps) refl in
     let fits : 12 + 512 * c.loop-number.count ≤ length c.loop-number.buffer =
     let room : 12 + 512 * length pages ≤ length c.args.buffer.now = c.requires.room (let w : k < length pages = here.0 in omega arith) in
     let w : k < length pages = here.0 in
@@ -91,7 +91,7 @@ loop-number-preserved g c =
         room = let e = inv.room in omega arith;
         least = inv.least;
         size = c.put_page.auto.buffer ∙ inv.size;
-        gathered = gathered_on pages k c.loop-number.count c.loop-number.buffer c.put_page.new.buffer runs here.0 (pasted_before c.loop-number.buffer c.in-Some.bytes.now c.put_page.new.buffer _ fits c.put_page.ensures.pasted) (pasted_block c.loop-number.buffer c.in-Some.bytes.now c.put_page.new.buffer _ fits c.put_page.ensures.whole c.put_page.ensures.pasted ∙ ap (λ (p : Page). p.bytes) here.1) inv.gathered (rises_listed entries c.args.pages.now.ordered) on;
+        gathered = gathered_on pages k c.loop-number.count c.loop-number.buffer c.put_page.new.buffer runs here.0 (pasted_before c.loop-number.buffer c.in-Some.bytes.now.value c.put_page.new.buffer _ fits c.put_page.ensures.pasted) (pasted_block c.loop-number.buffer c.in-Some.bytes.now.value c.put_page.new.buffer _ fits c.put_page.ensures.whole c.put_page.ensures.pasted ∙ ap (λ (p : Page). p.bytes) here.1) inv.gathered (rises_listed entries c.args.pages.now.ordered) on;
         as_honest = inv.as_honest;
         counted = inv.counted;
         home_writes = inv.home_writes;
@@ -106,7 +106,7 @@ pub overflow_add-number : goal.overflow_add-number
 overflow_add-number g c =
     let entries = c.args.pages.now.entries.entries in
     let k = c.loop-number.invariant.0 in
-    let here = page_here entries k (page c.in-Some.number.now c.in-Some.bytes.now) none (c.in-Some.number.now, c.in-Some.bytes.now) c.next.new.self (c.loop-number.invariant.1 ∙ c.in-Some.ensures.steps) refl in
+    let here = page_here entries k (page c.in-Some.number.now c.in-Some.bytes.now.value) none (c.in-Some.number.now, c.in-Some.bytes.now) c.next.new.self (c.loop-number.invariant.1 ∙ c.in-Some.ensures.steps) refl in
     let e : c.in-Some.number.now < 2 ^ 55 = c.requires.numbers.1 c.in-Some.number.now (subst (λ (p : Page). HoldsPage (listed c.args.pages.now) p.number) (sym here.1) (held_at (listed c.args.pages.now) k none (rises_listed entries c.args.pages.now.ordered) here.0)) in
     omega arith
 
@@ -116,7 +116,7 @@ overflow_sub-number g c =
     let pages = listed c.args.pages.now in
     let k = c.loop-number.invariant.0 in
     let inv = c.loop-number.invariant.3 in
-    let here = page_here entries k (page c.in-Some.number.now c.in-Some.bytes.now) none (c.in-Some.number.now, c.in-Some.bytes.now) c.next.new.self (c.loop-number.invariant.1 ∙ c.in-Some.ensures.steps) refl in
+    let here = page_here entries k (page c.in-Some.number.now c.in-Some.bytes.now.value) none (c.in-Some.number.now, c.in-Some.bytes.now) c.next.new.self (c.loop-number.invariant.1 ∙ c.in-Some.ensures.steps) refl in
     let same : c.in-Some.number.now ≡ (get_or pages k none).number = ap (λ (p : Page). p.number) here.1 in
     let few : c.loop-number.count ≤ (get_or pages k none).number = gathered_few pages k c.loop-number.count c.loop-number.buffer c.loop-number.invariant.2 inv.gathered in
     omega arith
@@ -135,7 +135,7 @@ loop-number-preserved-then-not-goes_on g c =
     let count = c.loop-number.count in
     let before = c.loop-number.buffer in
     let after = c.put_page.new.buffer in
-    let here = page_here entries k (page c.in-Some.number.now c.in-Some.bytes.now) none (c.in-Some.number.now, c.in-Some.bytes.now) c.next.new.self (c.loop-number.invariant.1 ∙ c.in-Some.ensures.steps) refl in
+    let here = page_here entries k (page c.in-Some.number.now c.in-Some.bytes.now.value) none (c.in-Some.number.now, c.in-Some.bytes.now) c.next.new.self (c.loop-number.invariant.1 ∙ c.in-Some.ensures.steps) refl in
     let w : k < length pages = here.0 in
     let few : count ≤ k = inv.few in
     let most : count < 4294967295 = inv.most in
@@ -146,8 +146,8 @@ loop-number-preserved-then-not-goes_on g c =
     let small : c.in-Some.number.now < 2 ^ 55 = c.requires.numbers.1 c.in-Some.number.now (subst (λ (p : Page). HoldsPage (listed c.args.pages.now) p.number) (sym here.1) (held_at (listed c.args.pages.now) k none (rises_listed entries c.args.pages.now.ordered) here.0)) in
     let goes : (is_some (page_at pages (c.in-Some.number.now + 1)) && nat_lt (count + 1) 4294967295) ≡ false = sym c.goes_on.ensures ∙ c.if-not-goes_on.true in
     let out : (is_some (page_at pages ((get_or pages k none).number + 1)) && nat_lt (count + 1) 4294967295) ≡ false = subst (λ (p : Page). (is_some (page_at pages (p.number + 1)) && nat_lt (count + 1) 4294967295) ≡ false) here.1 goes in
-    let kept = pasted_before before c.in-Some.bytes.now after _ fits c.put_page.ensures.pasted in
-    let put = pasted_block before c.in-Some.bytes.now after _ fits c.put_page.ensures.whole c.put_page.ensures.pasted ∙ ap (λ (p : Page). p.bytes) here.1 in
+    let kept = pasted_before before c.in-Some.bytes.now.value after _ fits c.put_page.ensures.pasted in
+    let put = pasted_block before c.in-Some.bytes.now.value after _ fits c.put_page.ensures.whole c.put_page.ensures.pasted ∙ ap (λ (p : Page). p.bytes) here.1 in
     let run : Written = record { first = (get_or pages k none).number - count; count = count + 1; bytes = take (512 * (count + 1)) (drop 12 after) } in
     let same_size : length after ≡ length before = c.put_page.auto.buffer in
     let is : IsWritten run = is_written pages k count before after runs here.0 kept put inv.gathered (omega arith) (omega arith) (omega arith) in
