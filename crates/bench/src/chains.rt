@@ -37,7 +37,7 @@ fn allocator(alloc: Global) -> Result<Allocator<MemoryMedium>, Error> {
 
 // Makes a chain of so many sectors, a call for each: its start.
 fn append(allocator: &mut Allocator<MemoryMedium>, count: usize) -> Result<u32, Error> {
-    let start = allocator.begin_chain(NewSector::Init(SectorInit::Zero))?;
+    let start = begin_chain(allocator)?;
     let mut last = start;
     for _ in 1..count {
         last = extend_chain(allocator, last)?;
@@ -65,4 +65,63 @@ fn run(rt: &HostRuntime, allocator: &mut Allocator<MemoryMedium>, count: usize) 
     let begin = Instant::now(rt)?;
     append(allocator, count)?;
     print_time(rt, "sectors appended again", begin)
+}
+
+/// Makes chains of one sector, frees every second of them, and then frees and takes a sector so often, at places far apart.
+pub fn free_every_second(rt: &HostRuntime, count: u32) -> Result<()> {
+    fragment(rt, &mut allocator(rt.alloc())?, count)
+}
+
+fn fragment(rt: &HostRuntime, allocator: &mut Allocator<MemoryMedium>, count: u32) -> Result<()> {
+    let starts = begin_chains(rt.alloc(), allocator, count)?;
+    let begin = Instant::now(rt)?;
+    free_second(allocator, &starts)?;
+    print_time(rt, "sectors freed, every second", begin)?;
+    let begin = Instant::now(rt)?;
+    renew_chains(allocator, &starts)?;
+    print_time(rt, "sectors freed and taken", begin)
+}
+
+// Makes so many chains of one sector: their starts.
+fn begin_chains(
+    alloc: Global,
+    allocator: &mut Allocator<MemoryMedium>,
+    count: u32,
+) -> Result<Vec<u32>, Error> {
+    let mut starts = Vec::new(alloc);
+    for _ in 0..count {
+        starts.push(begin_chain(allocator)?)?;
+    }
+    Ok(starts)
+}
+
+// Frees every second chain, from the first on.
+fn free_second(allocator: &mut Allocator<MemoryMedium>, starts: &[u32]) -> Result<(), Error> {
+    for (at, start) in starts.iter().enumerate() {
+        if at % 2 == 0 {
+            free_chain(allocator, *start)?;
+        }
+    }
+    Ok(())
+}
+
+// Frees each of the other chains, far apart, and begins another after each.
+fn renew_chains(allocator: &mut Allocator<MemoryMedium>, starts: &[u32]) -> Result<(), Error> {
+    let count = starts.len() / 2;
+    for n in 0..count {
+        let place = n.wrapping_mul(7919) % count.max(1);
+        if let Some(start) = starts.get(place.saturating_mul(2).saturating_add(1)) {
+            free_chain(allocator, *start)?;
+            begin_chain(allocator)?;
+        }
+    }
+    Ok(())
+}
+
+fn begin_chain(allocator: &mut Allocator<MemoryMedium>) -> Result<u32, Error> {
+    allocator.begin_chain(NewSector::Init(SectorInit::Zero))
+}
+
+fn free_chain(allocator: &mut Allocator<MemoryMedium>, start: u32) -> Result<(), Error> {
+    allocator.free_chain(start)
 }

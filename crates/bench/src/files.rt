@@ -1,5 +1,5 @@
 //! Parts of the benchmarks of compound files in memory.
-use crate::print_time;
+use crate::{fragments, print_time};
 use anyhow::Result;
 use cfb::{CompoundFile, Entries, Stream};
 use cfb_medium::{Error, MemoryMedium, Timestamp};
@@ -9,7 +9,7 @@ use std::io::SeekFrom;
 use std::time::Instant;
 
 // So many bytes of a stream are read or written at once.
-const PIECE: usize = 4096;
+pub(crate) const PIECE: usize = 4096;
 
 // The stream of pieces that lie far apart has so many bytes for each.
 const ROOM: usize = 10_000;
@@ -53,6 +53,20 @@ pub enum Part {
     ReadPiece,
     /// A piece is written.
     WritePiece,
+    /// A stream of 4,096 bytes is made.
+    MakePiece,
+    /// Every second of these streams is removed.
+    RemoveSecond,
+    /// One of the others, far from the last, is removed and made again.
+    MakeAgain,
+    /// A stream is cut to 50 bytes.
+    Cut,
+    /// A piece is appended to one of two streams in turn, each by an opening.
+    TakeTurns,
+    /// A sector is written to one stream.
+    MakeSector,
+    /// A byte is appended to it, each by an opening.
+    AppendByte,
 }
 
 impl Part {
@@ -71,6 +85,13 @@ impl Part {
             Part::MakeRoom => "room made",
             Part::ReadPiece => "pieces read",
             Part::WritePiece => "pieces written",
+            Part::MakePiece => "streams of 4,096 bytes made",
+            Part::RemoveSecond => "streams removed, every second",
+            Part::MakeAgain => "streams removed and made again",
+            Part::Cut => "streams cut to 50 bytes",
+            Part::TakeTurns => "pieces appended in turn",
+            Part::MakeSector => "sectors written",
+            Part::AppendByte => "bytes appended",
         }
     }
 }
@@ -145,11 +166,25 @@ fn carry_out(
         Part::RemoveNested => file.remove_storage_all("/a"),
         Part::ReadPiece => visit(file, size, false),
         Part::WritePiece => visit(file, size, true),
+        Part::MakePiece => make_streams(alloc, file, size, Order::Rising, PIECE),
+        Part::RemoveSecond => fragments::remove_second(alloc, file, size),
+        Part::MakeAgain => fragments::make_again(alloc, file, size),
+        Part::Cut => fragments::cut_streams(alloc, file, size),
+        Part::TakeTurns => fragments::take_turns(file, size),
+        Part::MakeSector => {
+            write_new(
+                alloc,
+                file,
+                fragments::GROWN,
+                (size as usize).saturating_mul(PIECE),
+            )
+        }
+        Part::AppendByte => fragments::append_bytes(file, size),
     }
 }
 
 // The path of the stream that is made as the n-th.
-fn path_of(alloc: Global, n: u32, order: Order) -> Result<String, Error> {
+pub(crate) fn path_of(alloc: Global, n: u32, order: Order) -> Result<String, Error> {
     let number = match order {
         Order::Shuffled => n.wrapping_mul(STEP),
         Order::Rising => n,
@@ -187,7 +222,7 @@ fn remove_streams(
 }
 
 // Makes a stream of so many bytes.
-fn write_new(
+pub(crate) fn write_new(
     alloc: Global,
     file: &mut CompoundFile<MemoryMedium>,
     path: &str,
@@ -220,7 +255,10 @@ fn write_pieces(
 }
 
 // A function for a call that many make: what is told of it costs time wherever it is seen.
-fn write_piece(stream: &mut Stream<'_, MemoryMedium>, piece: &[u8]) -> Result<(), Error> {
+pub(crate) fn write_piece(
+    stream: &mut Stream<'_, MemoryMedium>,
+    piece: &[u8],
+) -> Result<(), Error> {
     stream.write(piece)?;
     Ok(())
 }

@@ -3,6 +3,7 @@
 
 mod chains;
 mod files;
+mod fragments;
 mod rows;
 mod stores;
 
@@ -14,6 +15,7 @@ use std::time::Instant;
 // A line for each benchmark: its word, what its size counts, and what it does.
 const LIST: &str = "\
 chain SECTORS     appends sectors to one chain, a call each, frees the chain, and appends as many again
+holes CHAINS      makes so many chains of one sector, frees every second, and then frees one and takes one, far apart
 store WRITES      writes 4,096 bytes to a store so often, at places far apart, and commits
 commit PAGES      writes so many pages of 512 bytes side by side to a store, and commits
 streams COUNT     makes so many streams of 100 bytes, in shuffled order, reads them from the file opened again, and removes them
@@ -24,6 +26,10 @@ write COUNT       makes so many streams of 100 bytes and as many of 10,000, and 
 large MEGABYTES   so with one stream of so many megabytes, in pieces of 4,096 bytes
 places COUNT      reads and writes so many pieces of 4,096 bytes at places far apart of a stream that has 10,000 bytes for each
 copy COUNT        copies a file of so many streams of 100 bytes
+gaps COUNT        makes so many streams of 4,096 bytes, removes every second, and then each of the others, far apart, to make it again
+cut COUNT         makes so many streams of 10,000 bytes, and cuts each to 50
+turns COUNT       appends so many pieces of 4,096 bytes to one of two streams in turn, each by an opening
+bytes COUNT       appends so many bytes to a stream of as many sectors, each by an opening
 rows COUNT        puts so many rows, up to 65,536, into a table in memory, their keys in order, and prepares 1,000 more, a call each
 ";
 
@@ -51,6 +57,7 @@ fn run_words(rt: &HostRuntime, words: &[String]) -> Result<()> {
 fn run(rt: &HostRuntime, name: &str, size: u32) -> Result<()> {
     match name {
         "chain" => chains::append_and_free(rt, size as usize),
+        "holes" => chains::free_every_second(rt, size),
         "store" => stores::write_apart(rt, size as usize),
         "commit" => stores::commit_pages(rt, size as usize),
         "streams" => run_streams(rt, size, Order::Shuffled),
@@ -70,6 +77,13 @@ fn run(rt: &HostRuntime, name: &str, size: u32) -> Result<()> {
             files::run(rt, size, &parts, &[])
         }
         "copy" => files::run(rt, size, &[Part::Make(Order::Rising), Part::Copy], &[]),
+        "gaps" => {
+            let parts = [Part::MakePiece, Part::RemoveSecond, Part::MakeAgain];
+            files::run(rt, size, &parts, &[])
+        }
+        "cut" => files::run(rt, size, &[Part::MakeLong(Order::Rising), Part::Cut], &[]),
+        "turns" => files::run(rt, size, &[Part::TakeTurns], &[]),
+        "bytes" => files::run(rt, size, &[Part::MakeSector, Part::AppendByte], &[]),
         "rows" => rows::insert_and_prepare(rt, size),
         _ => bail!("there is no benchmark of this name"),
     }
