@@ -55,6 +55,15 @@ def facts(path):
     return f"root {size} of {len(mini)} bytes, {colors.count(1)} black, {colors.count(0)} red"
 
 
+def name_of(entry):
+    return entry[: max(struct.unpack_from("<H", entry, 64)[0] - 2, 0)].decode("utf-16-le")
+
+
+def storages(path):
+    """The plain names of all storages but the root, each with the bytes of its class, its state bits and its two times."""
+    return [(plain(name_of(it)), it[80:116]) for it in tables(path)[0] if it[66] == 1]
+
+
 def streams(path):
     """The streams under the root of such a file, by their plain names, in the order of their tree."""
     entries, mini_fat, mini, chain = tables(path)
@@ -69,9 +78,6 @@ def streams(path):
             found, number = found + mini[number * 64 : number * 64 + 64], mini_fat[number]
         return found[:length]
 
-    def name(entry):
-        return entry[: max(struct.unpack_from("<H", entry, 64)[0] - 2, 0)].decode("utf-16-le")
-
     def siblings(number):
         if number > LAST:
             return []
@@ -79,7 +85,7 @@ def streams(path):
         return [*siblings(left), entries[number], *siblings(right)]
 
     found = siblings(struct.unpack_from("<I", entries[0], 76)[0])
-    return {plain(name(it)): content(it) for it in found if it[66] == 2}
+    return {plain(name_of(it)): content(it) for it in found if it[66] == 2}
 
 
 def pool(found):

@@ -68,6 +68,26 @@ class Files:
         """The package is put right where it lies."""
         return self.traced("adopt", "--in-place", "--log", "home.log", "home.msi", **settings)
 
+    def export_of_table(self):
+        """A folder with the file of a table, and bytes beside it."""
+        folder = pathlib.Path(self.folder, "table")
+        (folder / "T").mkdir(parents=True, exist_ok=True)
+        (folder / "T.idt").write_bytes(b"Id\tText\tData\r\ni2\tS0\tV0\r\nT\tId\r\n3\tthree\tdata\r\n4\t\t\r\n")
+        (folder / "T" / "data").write_bytes(b"\0\xff" * 2500)
+        return "table"
+
+    def import_table(self, **settings):
+        """A table gets the rows of a file."""
+        return self.traced("import", "--log", "home.log", "home.msi", f"{self.export_of_table()}/T.idt", **settings)
+
+    def create(self, **settings):
+        """A new package is made."""
+        return self.do("create", **settings)
+
+    def build(self, **settings):
+        """One is made of a folder."""
+        return self.traced("build", "--log", "home.log", "home.msi", self.export_of_table(), **settings)
+
     def traced(self, *line, **settings):
         """A run of the program on these words."""
         trace = f"{self.folder}/calls"

@@ -7,9 +7,9 @@ use crate::files;
 use crate::run::{answer, status_of};
 use crate::sessions::adopt_on_device;
 use cfb_medium::Error;
-use package_checks::tell_unadopted;
+use package_checks::{tell_twice, tell_unadopted};
 use package_files::{Failure, Faults, Found, Names, Trouble, cut_log, look_at_log};
-use package_views::is_sound_at;
+use package_reading::is_sound_at;
 use std::fs::File;
 use std::io::Write;
 use std::rt::Files;
@@ -25,10 +25,14 @@ pub(crate) fn adopt_there<R: Files<File = File> + AllocGlobal, O: Write, E: Writ
     ensures { result ≤ 3 }
 {
     let ended = match is_right_already(rt, names) {
-        Ok(true) => answer("sound", out),
+        Ok(true) => {
+            tell_twice(rt, names, err);
+            answer("sound", out)
+        }
         Ok(false) => match put_right(rt, names) {
             Ok(None) => {
                 tell_signature(rt, names, err);
+                tell_twice(rt, names, err);
                 answer("adopted", out)
             }
             Ok(Some(error)) => return tell_unadopted(rt, names, error, out, err),

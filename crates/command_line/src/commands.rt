@@ -5,12 +5,15 @@ ghost use Rattle.std.specs.Prelude.{⊤, [], map};
 use crate::failures::failure_of;
 use crate::files;
 use crate::progress::Progress;
+use crate::reasons::{known_tables, tell_reason};
 use crate::sessions::run_commands;
 use cfb_medium::Error;
+use command_reasons::KnownTables;
 use installer::{Answer, Command, answer_text};
 use installer_runs::{Ending as Ended, Listener, Until};
+use package_checks::tell_twice;
 use package_files::{Failure, Faults, Found, Names, Trouble, cut_log, look_at_log};
-use package_views::{is_signed_at, is_sound_at, why_refused};
+use package_reading::{is_signed_at, is_sound_at, why_refused};
 use serde_json::Value as Json;
 use std::alloc::{AllocError, Global};
 use std::fs::File;
@@ -23,8 +26,8 @@ use std::time::Clock;
 pub(crate) enum Ending {
     /// All was done.
     Done,
-    /// A command was refused by a rule: the first so.
-    Refused(Error),
+    /// A command was refused by a rule: the first so, and how many stand before it.
+    Refused(Error, usize),
 }
 
 /// How commands are run.
@@ -49,9 +52,17 @@ pub(crate) fn run<R: Files<File = File> + AllocGlobal + Clock, O: Write, E: Writ
     progress: &mut Progress<'_, R, E>,
 ) -> Result<Ending, Failure> {
     let found = files::look_to_commit(rt, names)?;
+    let mut known = known_before(rt, names, manner);
     let faults = Faults::new();
     let device = files::open(rt, names, &faults)?;
-    let mut answers = Answers::new(rt.alloc(), names.named(), commands, out, progress);
+    let mut answers = Answers::new(
+        rt.alloc(),
+        names.named(),
+        commands,
+        &mut known,
+        out,
+        progress,
+    );
     let ended = run_commands(rt.alloc(), device, commands, manner.until, &mut answers);
     match ended {
         Ok(Ended::Whole | Ended::Stopped) => {}
@@ -72,6 +83,18 @@ pub(crate) fn run<R: Files<File = File> + AllocGlobal + Clock, O: Write, E: Writ
         Ok(ending) => Ok(ending),
         Err(failure) => Err(files::why_fault(rt, names, &faults, failure)),
     }
+}
+
+// The tables that reasons are found from; none where no reason is told.
+fn known_before<R: Files<File = File> + AllocGlobal>(
+    rt: &R,
+    names: &Names,
+    manner: Manner,
+) -> Option<KnownTables> {
+    if manner.is_quiet || manner.is_own {
+        return None;
+    }
+    known_tables(rt, names)
 }
 
 // Tells that no command was run behind one that was refused.
@@ -170,7 +193,7 @@ fn tell_notes<R: Files<File = File> + AllocGlobal, E: Write>(
     if heard.has_invalid && matches!(is_sound_at(rt, names), Ok(false)) {
         let _ = writeln!(
             err,
-            "msidb: {named}: the package isn't sound, so it isn't changed; `msidb check` tells why, `msidb adopt` makes a copy that can be changed"
+            "msidb: {named}: the package isn't sound, so it isn't changed; `msidb check {named}` tells why, `msidb adopt NEW {named}` may make a copy that can be changed, `msidb adopt --in-place {named}` may put it right where it lies"
         );
     }
     if heard.lacks_validation {
@@ -190,6 +213,7 @@ fn tell_notes<R: Files<File = File> + AllocGlobal, E: Write>(
     }
     if heard.has_committed {
         tell_signature(rt, names, err);
+        tell_twice(rt, names, err);
     }
 }
 
@@ -214,12 +238,14 @@ struct Answers<'a, 'b, O, R, E> {
     alloc: Global,
     named: &'a str,
     commands: &'a [Command],
+    // The tables that are there; none where no reason is told.
+    known: &'a mut Option<KnownTables>,
     done: usize,
     heard: Heard,
     out: &'a mut O,
     progress: &'a mut Progress<'b, R, E>,
-    // Why the first command that a rule refused was.
-    refusal: Option<Error>,
+    // Why the first command that a rule refused was, and how many stand before it.
+    refusal: Option<(Error, usize)>,
     // The first failure.
     failure: Option<Failure>,
     // An answer couldn't be printed, so none is printed any more.
@@ -235,9 +261,10 @@ impl<'a, 'b, O: Write, R: Clock, E: Write> Listener for Answers<'a, 'b, O, R, E>
         for answer in answers {
             if let Some(command) = self.commands.get(self.done) {
                 self.heard.note(command, answer);
+                self.explain(command, answer);
             }
-            self.done = self.done.saturating_add(1);
             self.note(answer);
+            self.done = self.done.saturating_add(1);
             self.print(answer);
         }
         self.progress.step(answers.len());
@@ -272,6 +299,7 @@ impl<'a, 'b, O: Write, R: Clock, E: Write> Answers<'a, 'b, O, R, E> {
         alloc: Global,
         named: &'a str,
         commands: &'a [Command],
+        known: &'a mut Option<KnownTables>,
         out: &'a mut O,
         progress: &'a mut Progress<'b, R, E>,
     ) -> Self {
@@ -279,6 +307,7 @@ impl<'a, 'b, O: Write, R: Clock, E: Write> Answers<'a, 'b, O, R, E> {
             alloc,
             named,
             commands,
+            known,
             done: 0,
             heard: Heard::default(),
             out,
@@ -289,11 +318,33 @@ impl<'a, 'b, O: Write, R: Clock, E: Write> Answers<'a, 'b, O, R, E> {
         }
     }
 
+    // Tells why a rule refused a command, or takes in what it has made of the tables.
+    fn explain(&mut self, command: &Command, answer: &Answer) {
+        let Some(known) = &mut *self.known else {
+            return;
+        };
+        match answer {
+            Answer::Refused(error) if !is_fault(*error) => {
+                let number = self.done.saturating_add(1);
+                let err = self.progress.err();
+                tell_reason(self.alloc, self.named, number, known, command, *error, err);
+            }
+            Answer::Done => {
+                if known.follow(command).is_err() {
+                    *self.known = None;
+                }
+            }
+            _ => {}
+        }
+    }
+
     // Notes whether an answer is a refusal or a fault.
     fn note(&mut self, answer: &Answer) {
         match answer {
             Answer::Refused(error) if is_fault(*error) => self.meet(failure_of(*error)),
-            Answer::Refused(error) if self.refusal.is_none() => self.refusal = Some(*error),
+            Answer::Refused(error) if self.refusal.is_none() => {
+                self.refusal = Some((*error, self.done));
+            }
             _ => {}
         }
     }
@@ -320,7 +371,7 @@ impl<'a, 'b, O: Write, R: Clock, E: Write> Answers<'a, 'b, O, R, E> {
     fn ending(&self) -> Result<Ending, Failure> {
         match (self.failure, self.refusal) {
             (Some(failure), _) => Err(failure),
-            (None, Some(error)) => Ok(Ending::Refused(error)),
+            (None, Some((error, place))) => Ok(Ending::Refused(error, place)),
             (None, None) => Ok(Ending::Done),
         }
     }

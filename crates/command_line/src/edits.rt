@@ -12,7 +12,7 @@ use msi_export::moment_in;
 use package_files::{
     Failure, Names, tell, tell_failure, tell_trouble, trouble_at, trouble_of_kind,
 };
-use package_views::has_property;
+use package_views::{NameFault, is_stream_name, lacks_property, name_fault};
 use std::alloc::{AllocError, Global};
 use std::fs::{self, File};
 use std::io::{self, Write};
@@ -39,12 +39,8 @@ pub(crate) fn set_property<R: Files<File = File> + AllocGlobal + Clock, E: Write
 ) -> u8
     ensures { result ≤ 3 }
 {
-    if value.is_empty() {
-        let named = names.named();
-        let _ = writeln!(
-            err,
-            "msidb: {named}: an empty value is null to other programs; `msidb unset` takes a property away"
-        );
+    if value.is_empty() || property.name.is_empty() {
+        tell_empty(names.named(), property.name, err);
         return 1;
     }
     let text = if property.is_field {
@@ -52,7 +48,22 @@ pub(crate) fn set_property<R: Files<File = File> + AllocGlobal + Clock, E: Write
     } else {
         text_of_property(rt.alloc(), property.name, value)
     };
-    run_text(rt, names, property, text, err)
+    run_text(rt, names, property, Some(value), text, err)
+}
+
+// Tells that a name or a value is empty.
+fn tell_empty<E: Write>(named: &str, name: &str, err: &mut E) {
+    let _ = if name.is_empty() {
+        writeln!(
+            err,
+            "msidb: {named}: an empty name is null to other programs; name the property"
+        )
+    } else {
+        writeln!(
+            err,
+            "msidb: {named}: an empty value is null to other programs; `msidb unset` takes a property away"
+        )
+    };
 }
 
 /// Takes a property away, and commits; or nothing is changed. The status is 0 where it was done, 1 where there is none, or a rule refused
@@ -65,21 +76,16 @@ pub(crate) fn unset_property<R: Files<File = File> + AllocGlobal + Clock, E: Wri
 ) -> u8
     ensures { result ≤ 3 }
 {
-    match has_property(rt, names, property.name, property.is_field) {
-        Ok(false) => {
-            let (named, name) = (names.named(), property.name);
-            let _ = writeln!(err, "msidb: {named}: no {name}");
-            return 1;
-        }
-        // (what is wrong with the file is told where it is opened)
-        _ => {}
+    // (what is wrong with the file is told where it is opened)
+    if lacks_property(rt, names, property.name, property.is_field, err) {
+        return 1;
     }
     let text = if property.is_field {
         text_of_cleared(rt.alloc(), property.name)
     } else {
         text_of_removal(rt.alloc(), property.name)
     };
-    run_text(rt, names, property, text, err)
+    run_text(rt, names, property, None, text, err)
 }
 
 /// Puts the bytes of a file into a stream, and commits; or nothing is changed. The status is 0 where it was done, 1 where a rule refused it, 3
@@ -98,7 +104,7 @@ pub(crate) fn put_stream<R: Files<File = File> + AllocGlobal + Clock, E: Write>(
         None => return 3,
     };
     match commands_of_put(rt.alloc(), stream, bytes) {
-        Ok(commands) => run_own(rt, names, &commands, stream, err),
+        Ok(commands) => run_own(rt, names, &commands, Change::Stream(stream), err),
         Err(_) => out_of_memory(err),
     }
 }
@@ -141,11 +147,20 @@ fn commands_of_put(
     Ok(commands)
 }
 
-// Runs the commands of a text that this program wrote. Where it holds none, the field or its value is wrong.
+// What a word changes.
+#[derive(Clone, Copy, Debug)]
+enum Change<'a> {
+    Property(Property<'a>),
+    Stream(&'a str),
+}
+
+// Runs the commands of a text that this program wrote, which gives a property a value or takes it away. Where it holds none, the field or
+// its value is wrong.
 fn run_text<R: Files<File = File> + AllocGlobal + Clock, E: Write>(
     rt: &R,
     names: &Names,
     property: Property<'_>,
+    value: Option<&str>,
     text: Result<String, AllocError>,
     err: &mut E,
 ) -> u8
@@ -155,17 +170,42 @@ fn run_text<R: Files<File = File> + AllocGlobal + Clock, E: Write>(
         return out_of_memory(err);
     };
     match commands_of(rt.alloc(), &text) {
-        Ok(commands) => run_own(rt, names, &commands, property.name, err),
+        Ok(commands) => run_own(rt, names, &commands, Change::Property(property), err),
         Err(Error::Memory) => out_of_memory(err),
         Err(_) => {
-            let (named, name) = (names.named(), property.name);
-            let _ = writeln!(
-                err,
-                "msidb: {named}: no summary has a field {name} with such a value; `msidb set --help` tells the fields"
-            );
+            tell_wrong_field(names.named(), property.name, value, err);
             1
         }
     }
+}
+
+// Tells that no summary has a field, or what the field takes in place of a value.
+fn tell_wrong_field<E: Write>(named: &str, name: &str, value: Option<&str>, err: &mut E) {
+    let _ = match (wanted_of(name), value) {
+        (Some(wanted), Some(value)) => {
+            writeln!(err, "msidb: {named}: {name} takes {wanted}, not {value}")
+        }
+        (Some(_), None) => writeln!(err, "msidb: {named}: {name} can't be taken away"),
+        (None, _) => writeln!(
+            err,
+            "msidb: {named}: no summary has a field {name}; `msidb set --help` tells the fields"
+        ),
+    };
+}
+
+// What a field of the summary takes.
+fn wanted_of(field: &str) -> Option<&'static str> {
+    Some(match field {
+        "page_count" | "word_count" | "character_count" | "doc_security" => "a number",
+        "codepage" => "the number of a code page, as 1252 or 65001",
+        "last_printed" | "creation_time" | "last_saved_time" =>
+            "a time from 1601 on, as 2024-09-05T08:53:20Z",
+        "languages" => "numbers with commas between them, as 1033,1031",
+        "uuid" => "an identifier, as {DDCF7CCD-8AF1-4F16-9181-134A919F1CD6}",
+        "title" | "subject" | "author" | "keywords" | "comments" | "arch" => "a text",
+        "last_saved_by" | "creating_application" => "a text",
+        _ => return None,
+    })
 }
 
 fn out_of_memory<E: Write>(err: &mut E) -> u8
@@ -180,7 +220,7 @@ fn run_own<R: Files<File = File> + AllocGlobal + Clock, E: Write>(
     rt: &R,
     names: &Names,
     commands: &[Command],
-    name: &str,
+    change: Change<'_>,
     err: &mut E,
 ) -> u8
     ensures { result ≤ 3 }
@@ -194,8 +234,8 @@ fn run_own<R: Files<File = File> + AllocGlobal + Clock, E: Write>(
     let ended = run(rt, names, commands, manner, &mut io::sink(), &mut progress);
     match ended {
         Ok(Ending::Done) => 0,
-        Ok(Ending::Refused(error)) => {
-            tell_refused(names, commands, name, error, err);
+        Ok(Ending::Refused(error, _)) => {
+            tell_refused(rt, names, change, error, err);
             1
         }
         Err(failure) => {
@@ -210,27 +250,64 @@ fn tell_over<E: Write>(names: &Names, failure: Failure, err: &mut E) {
 }
 
 // Tells which rule refused a change.
-fn tell_refused<E: Write>(
+fn tell_refused<R: Files<File = File> + AllocGlobal, E: Write>(
+    rt: &R,
     names: &Names,
-    commands: &[Command],
-    name: &str,
+    change: Change<'_>,
     error: Error,
     err: &mut E,
 ) {
     let named = names.named();
-    let is_stream = matches!(commands.first(), Some(Command::WriteStream(_, _)));
-    let _ = match error {
+    match (error, change) {
         // (told with what makes it so)
-        Error::InvalidData => Ok(()),
-        Error::NotFound => writeln!(err, "msidb: {named}: no table Property"),
+        (Error::InvalidData, _) => {}
+        (Error::NotFound, _) => tell_no_table(named, err),
+        (_, Change::Stream(name)) => tell_refused_stream(named, name, error, err),
+        (_, Change::Property(property)) => {
+            let fault = if property.is_field {
+                None
+            } else {
+                name_fault(rt, names, property.name)
+            };
+            tell_refused_property(named, property.name, fault, err);
+        }
+    }
+}
+
+fn tell_no_table<E: Write>(named: &str, err: &mut E) {
+    let _ = writeln!(
+        err,
+        "msidb: {named}: no table Property; make one by a `run`, or set a field of the summary with --summary"
+    );
+}
+
+fn tell_refused_stream<E: Write>(named: &str, name: &str, error: Error, err: &mut E) {
+    let _ = match error {
         Error::AlreadyExists => writeln!(err, "msidb: {named}: a storage has the name {name}"),
-        _ if is_stream => writeln!(
+        _ if is_stream_name(name) => writeln!(
             err,
-            "msidb: {named}: no stream can have the name {name}, or so many bytes"
+            "msidb: {named}: the file has too many bytes for a stream of this package"
         ),
         _ => writeln!(
             err,
-            "msidb: {named}: {name} is left as it was: its value is refused"
+            "msidb: {named}: no stream can have the name \"{name}\"; it has 1 to 62 letters, digits, _ and ., or up to 31 others, and no /, \\, : or !"
+        ),
+    };
+}
+
+fn tell_refused_property<E: Write>(named: &str, name: &str, fault: Option<NameFault>, err: &mut E) {
+    let _ = match fault {
+        Some(NameFault::TooLong(most)) => writeln!(
+            err,
+            "msidb: {named}: {name} isn't set: its name has more than {most} characters"
+        ),
+        Some(NameFault::NotOf(category)) => writeln!(
+            err,
+            "msidb: {named}: {name} isn't set: its name must be of the category {category}"
+        ),
+        None => writeln!(
+            err,
+            "msidb: {named}: {name} isn't set: its value is refused"
         ),
     };
 }

@@ -2,13 +2,16 @@
 #![tactic(auto)]
 
 mod adoption;
+mod builds;
 mod commands;
 mod edits;
 mod empties;
 mod failures;
 mod files;
+mod imports;
 mod lists;
 mod progress;
+mod reasons;
 mod run;
 mod sessions;
 mod terminals;

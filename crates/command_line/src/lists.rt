@@ -5,7 +5,7 @@ use cfb_medium::Error;
 use installer::Answer;
 use msi::Package;
 use package_files::{Failure, Names, Shown, check_shown};
-use package_views::{package_as_named, streams_of, tables_of, trouble_of};
+use package_reading::{package_as_named, streams_of, tables_of, trouble_of};
 use std::alloc::Global;
 use std::fs::File;
 use std::io::Write;

@@ -2,10 +2,12 @@
 ghost use Rattle.std.specs.Prelude.{◌≤◌, IfErr};
 
 use crate::adoption::adopt_there;
+use crate::builds::built_of;
 use crate::commands::{Ending, Manner, run};
 use crate::edits::{Property, put_stream, set_property, unset_property};
 use crate::failures::failure_of;
 use crate::files;
+use crate::imports::import;
 use crate::lists::list;
 use crate::progress::Progress;
 use crate::sessions::{commit_copy, create_package};
@@ -15,15 +17,18 @@ use cfb::MemoryMedium;
 use cfb_medium::Error;
 use clap::error::ErrorKind;
 use command_file::{Command, slip_in};
-use command_words::{Adoption, Line, Log, Pages, Parts, RunOptions, read_words};
+use command_lines::{Line, read_words};
+use command_options::{Adoption, Log, Pages, Parts, RunOptions};
 use installer_runs::Until;
 use msi::Package;
-use package_checks::{adopted_package, check_package};
+use package_checks::{Checking, adopted_package, check_package, tell_twice};
 use package_files::{
     Failure, Faults, Found, Names, Trouble, cut_log, names_of, remove_fresh, tell, tell_failure,
-    tell_failure_of,
+    tell_failure_of, trouble_at,
 };
-use package_views::{export_package, extract_stream, get_property, pages_of, show_package};
+use package_reading::pages_of;
+use package_validation::{Ignored, Validation, ignored_in, validate_package};
+use package_views::{export_package, extract_stream, get_property, show_package};
 use staged::Recovered;
 use std::alloc::Global;
 use std::fs::File;
@@ -33,13 +38,13 @@ use std::time::Clock;
 
 /// Does what the words after the program's name ask for. Answers go to `out`, what went wrong goes to `err`, a line that names the
 /// file. The status is 0 where all was done, or help or the version was asked for; 1 where a command was refused by a rule, or a table
-/// that is to be shown isn't there; 2 where the words or the command file can't be read, or two logs are named, and then no package
-/// was opened; 3 for a fault, where home file or log were refused, or a file that is to be shown, and where nothing more can be
-/// written. A fault comes before a refusal. A file that is named as the log and is none is refused before anything is written.
+/// that is to be shown isn't there; 2 where the words or the command file can't be read, two logs are named, or one with several files,
+/// and then no package was opened; 3 for a fault, where home file or log were refused, or a file that is to be shown, and where nothing
+/// more can be written. A fault comes before a refusal. Of several files that are judged the status is the greatest. A file that is named as the log and is none is refused before anything is written.
 /// Commands are run to the end of their list, also where their answers can't be written. Where answers go to a terminal, tables are shown
 /// in aligned columns; where what went wrong does, a long run says how far it has come. What is shown, listed, checked or exported is only
 /// read, as a recovery would leave it; and nothing is made by what is refused.
-pub fn msidb<R: Files<File = File> + AllocGlobal + Clock, O: Write, E: Write>(
+pub fn msidb<R: Files<File = File> + AllocGlobal + Clock + Clone + Drop, O: Write, E: Write>(
     rt: &R,
     words: &[String],
     out: &mut O,
@@ -78,7 +83,7 @@ fn tell_refusal<O: Write, E: Write>(refusal: &clap::Error, out: &mut O, err: &mu
 }
 
 // Does what a line asks for.
-fn carry_out<R: Files<File = File> + AllocGlobal + Clock, O: Write, E: Write>(
+fn carry_out<R: Files<File = File> + AllocGlobal + Clock + Clone + Drop, O: Write, E: Write>(
     rt: &R,
     line: Line<'_>,
     out: &mut O,
@@ -121,11 +126,27 @@ fn carry_out<R: Files<File = File> + AllocGlobal + Clock, O: Write, E: Write>(
             let word = Word::Put(stream, from);
             on_files(rt, word, package, log, out, err)
         }
+        Line::Import(package, log, from) => {
+            on_files(rt, Word::Import(from), package, log, out, err)
+        }
+        Line::Build(package, log, folder) => {
+            on_files(rt, Word::Build(folder), package, log, out, err)
+        }
         Line::Show(path, log, parts, pages) => {
             let look = Look::Show(parts, terminals.out);
             look_at(rt, look, path, log, pages, out, err)
         }
-        Line::Check(path, log, pages) => look_at(rt, Look::Check, path, log, pages, out, err),
+        Line::Check(files, log, places, pages) => {
+            let look = Look::Check(places, 1 < files.len());
+            look_at_each(rt, look, &files, log, pages, out, err)
+        }
+        Line::Validate(files, log, ignored, pages) => match rules_left(ignored, err) {
+            Ok(ignored) => {
+                let look = Look::Validate(ignored, 1 < files.len(), terminals.out);
+                look_at_each(rt, look, &files, log, pages, out, err)
+            }
+            Err(status) => status,
+        },
         Line::Export(path, log, folder, pages) => {
             look_at(rt, Look::Export(folder), path, log, pages, out, err)
         }
@@ -137,11 +158,41 @@ fn carry_out<R: Files<File = File> + AllocGlobal + Clock, O: Write, E: Write>(
 enum Look<'a> {
     // With its parts, and whether a person reads them.
     Show(Parts<'a>, bool),
-    Check,
+    // With whether all places are told, and whether the file is named.
+    Check(bool, bool),
+    // With the rules that are left out, whether the file is named, and whether a person reads what is found.
+    Validate(Ignored, bool, bool),
     // With the folder.
     Export(&'a str),
     // With the name, and whether it is a field of the summary.
     Get(&'a str, bool),
+}
+
+// Does what is asked for with each of these packages, in order. The status is the greatest; a log is that of one package alone.
+fn look_at_each<R: Files<File = File> + AllocGlobal, O: Write, E: Write>(
+    rt: &R,
+    look: Look<'_>,
+    files: &[&str],
+    log: Option<&str>,
+    pages: Pages<'_>,
+    out: &mut O,
+    err: &mut E,
+) -> u8
+    ensures { result ≤ 3 }
+{
+    if log.is_some() && 1 < files.len() {
+        return tell_words("--log goes with one file", err);
+    }
+    let pages = match asked(pages, err) {
+        Ok(pages) => pages,
+        Err(status) => return status,
+    };
+    let mut greatest = 0;
+    for path in files {
+        let status = look_by(rt, look, path, log, pages, out, err);
+        greatest = status.max(greatest);
+    }
+    greatest
 }
 
 // Does what is asked for with a package that is only read.
@@ -156,10 +207,24 @@ fn look_at<R: Files<File = File> + AllocGlobal, O: Write, E: Write>(
 ) -> u8
     ensures { result ≤ 3 }
 {
-    let pages = match asked(pages, err) {
-        Ok(pages) => pages,
-        Err(status) => return status,
-    };
+    match asked(pages, err) {
+        Ok(pages) => look_by(rt, look, path, log, pages, out, err),
+        Err(status) => status,
+    }
+}
+
+// The same, by these pages.
+fn look_by<R: Files<File = File> + AllocGlobal, O: Write, E: Write>(
+    rt: &R,
+    look: Look<'_>,
+    path: &str,
+    log: Option<&str>,
+    pages: package_reading::Pages,
+    out: &mut O,
+    err: &mut E,
+) -> u8
+    ensures { result ≤ 3 }
+{
     let names = match named(rt, path, log, err) {
         Ok(names) => names,
         Err(status) => return status,
@@ -168,14 +233,66 @@ fn look_at<R: Files<File = File> + AllocGlobal, O: Write, E: Write>(
         Look::Show(parts, is_terminal) => {
             show_package(rt, &names, parts, pages, is_terminal, out, err)
         }
-        Look::Check => check_package(rt, &names, pages, out, err),
+        Look::Check(is_whole, names_file) => {
+            let checking = Checking {
+                pages,
+                is_whole,
+                names_file,
+            };
+            check_package(rt, &names, checking, out, err)
+        }
+        Look::Validate(ignored, names_file, is_terminal) => {
+            let validation = Validation {
+                pages,
+                ignored,
+                names_file,
+                is_terminal,
+            };
+            validate(rt, &names, validation, out, err)
+        }
         Look::Export(folder) => export_package(rt, &names, pages, folder, err),
         Look::Get(name, is_field) => get_property(rt, &names, name, is_field, pages, out, err),
     }
 }
 
+// Tells what is wrong with a package's contents, and which of its texts other programs take for several.
+fn validate<R: Files<File = File> + AllocGlobal, O: Write, E: Write>(
+    rt: &R,
+    names: &Names,
+    validation: Validation,
+    out: &mut O,
+    err: &mut E,
+) -> u8
+    ensures { result ≤ 3 }
+{
+    let status = validate_package(rt, names, validation, out, err);
+    if status < 2 {
+        tell_twice(rt, names, err);
+    }
+    status
+}
+
+// The rules that words leave out. Where one is none, the status is given, and why is told.
+fn rules_left<E: Write>(names: Option<&str>, err: &mut E) -> Result<Ignored, u8>
+    ensures { IfErr result (λ status. status ≤ 3) }
+{
+    let Some(names) = names else {
+        return Ok(Ignored::nothing());
+    };
+    match ignored_in(names) {
+        Ok(ignored) => Ok(ignored),
+        Err(name) => {
+            let _ = writeln!(
+                err,
+                "msidb: {name} is no rule; `msidb validate --help` lists them"
+            );
+            Err(2)
+        }
+    }
+}
+
 // The code pages that words ask for. Where one is none, the status is given, and why is told.
-fn asked<E: Write>(pages: Pages<'_>, err: &mut E) -> Result<package_views::Pages, u8>
+fn asked<E: Write>(pages: Pages<'_>, err: &mut E) -> Result<package_reading::Pages, u8>
     ensures { IfErr result (λ status. status ≤ 3) }
 {
     match pages_of(pages) {
@@ -254,10 +371,14 @@ enum Word<'a> {
     Unset(Property<'a>),
     // With the name of the stream, and the path of the file.
     Put(&'a str, &'a str),
+    // With the path of the file or folder.
+    Import(&'a str),
+    // With the path of the folder.
+    Build(&'a str),
 }
 
 // Does what a word asks for, with the log that is named or the one beside the package.
-fn on_files<R: Files<File = File> + AllocGlobal + Clock, O: Write, E: Write>(
+fn on_files<R: Files<File = File> + AllocGlobal + Clock + Clone + Drop, O: Write, E: Write>(
     rt: &R,
     word: Word<'_>,
     package: &str,
@@ -282,7 +403,7 @@ fn on_files<R: Files<File = File> + AllocGlobal + Clock, O: Write, E: Write>(
 }
 
 // Does what a word asks for.
-fn do_word<R: Files<File = File> + AllocGlobal + Clock, O: Write, E: Write>(
+fn do_word<R: Files<File = File> + AllocGlobal + Clock + Clone + Drop, O: Write, E: Write>(
     rt: &R,
     word: Word<'_>,
     names: &Names,
@@ -309,6 +430,8 @@ fn do_word<R: Files<File = File> + AllocGlobal + Clock, O: Write, E: Write>(
         Word::Set(property, value) => return set_property(rt, names, property, value, err),
         Word::Unset(property) => return unset_property(rt, names, property, err),
         Word::Put(stream, from) => return put_stream(rt, names, stream, from, err),
+        Word::Import(from) => return import(rt, names, from, err),
+        Word::Build(folder) => return build_file(rt, names, folder, out, err),
     };
     status_of(ended, names, err)
 }
@@ -399,7 +522,7 @@ pub(crate) fn status_of<E: Write>(ended: Result<Ending, Failure>, names: &Names,
 {
     match ended {
         Ok(Ending::Done) => 0,
-        Ok(Ending::Refused(_)) => 1,
+        Ok(Ending::Refused(_, _)) => 1,
         Err(failure) => {
             tell_failure(names, failure, err);
             3
@@ -453,10 +576,52 @@ fn adopt_file<R: Files<File = File> + AllocGlobal, O: Write, E: Write>(
     };
     let mut package = match adopted_package(rt, source, pages, adoption.validation, out, err) {
         Ok(package) => package,
-        Err(status) => return status,
+        Err(status) => {
+            if is_turned_round(rt, names, source) {
+                tell_order(names.named(), err);
+            }
+            return status;
+        }
     };
-    let ended = keep_copy(rt, names, &mut package, out);
+    match keep_copy(rt, names, &mut package, "adopted", out) {
+        Err(Failure::Package(Trouble::Present)) => {
+            tell_order(names.named(), err);
+            3
+        }
+        ended => status_of(ended, names, err),
+    }
+}
+
+// Makes a package of a folder, and commits it; or makes nothing.
+fn build_file<R: Files<File = File> + AllocGlobal + Clone + Drop, O: Write, E: Write>(
+    rt: &R,
+    names: &Names,
+    folder: &str,
+    out: &mut O,
+    err: &mut E,
+) -> u8
+    ensures { result ≤ 3 }
+{
+    let mut package = match built_of(rt, folder, err) {
+        Ok(package) => package,
+        Err(status) => return status.min(3),
+    };
+    let ended = keep_copy(rt, names, &mut package, "built", out);
     status_of(ended, names, err)
+}
+
+// Whether the package that is to be made is there, and the one that is to be read isn't.
+fn is_turned_round<R: Files<File = File>>(rt: &R, names: &Names, source: &Names) -> bool {
+    trouble_at(rt, source.package()) == Some(Trouble::Missing)
+        && trouble_at(rt, names.package()).is_none()
+}
+
+// Tells which of two packages is named first.
+fn tell_order<E: Write>(named: &str, err: &mut E) {
+    let _ = writeln!(
+        err,
+        "msidb: {named}: it is there already; the new package comes first, under another name: `msidb adopt NEW SOURCE`"
+    );
 }
 
 // The code pages by which the texts of a package are put in UTF-8, if they are to be. Where pages are named for nothing, or one is none,
@@ -464,7 +629,7 @@ fn adopt_file<R: Files<File = File> + AllocGlobal, O: Write, E: Write>(
 fn asked_of<E: Write>(
     adoption: Adoption<'_>,
     err: &mut E,
-) -> Result<Option<package_views::Pages>, u8>
+) -> Result<Option<package_reading::Pages>, u8>
     ensures { IfErr result (λ status. status ≤ 3) }
 {
     let words = adoption.pages;
@@ -489,6 +654,7 @@ fn keep_copy<R: Files<File = File> + AllocGlobal, O: Write>(
     rt: &R,
     names: &Names,
     package: &mut Package<MemoryMedium>,
+    word: &str,
     out: &mut O,
 ) -> Result<Ending, Failure> {
     let faults = Faults::new();
@@ -496,7 +662,7 @@ fn keep_copy<R: Files<File = File> + AllocGlobal, O: Write>(
     match commit_copy(rt.alloc(), package, device) {
         Ok(()) => {
             cut_log(rt, names);
-            answer("adopted", out)
+            answer(word, out)
         }
         Err(error) => {
             let failure = files::why_fault(rt, names, &faults, why_not_made(error));

@@ -1,5 +1,6 @@
 //! The text of a command file.
 use crate::empties::tell_empty_texts;
+use cfb::MAGIC_NUMBER;
 use cfb_medium::Error;
 use command_file::{Command, Refusal, read_commands, refusal_in};
 use package_files::{Trouble, tell, tell_trouble, trouble_at};
@@ -66,8 +67,30 @@ fn read_text<R: Files<File = File> + AllocGlobal, E: Write>(
 ) -> Result<String, Error> {
     match fs::read_to_string(rt, path) {
         Ok(text) => Ok(text),
-        Err(error) => Err(tell_unread(named, error.kind(), err)),
+        Err(error) => {
+            if error.kind() == io::ErrorKind::InvalidData && is_compound_file(rt, path) {
+                tell_swapped(named, err);
+                return Err(Error::InvalidData);
+            }
+            Err(tell_unread(named, error.kind(), err))
+        }
     }
+}
+
+// Whether a file begins as a package does.
+fn is_compound_file<R: Files<File = File> + AllocGlobal>(rt: &R, path: &str) -> bool {
+    match fs::read(rt, path) {
+        Ok(bytes) => bytes.starts_with(MAGIC_NUMBER.as_slice()),
+        Err(_) => false,
+    }
+}
+
+// Tells of a package that stands where a command file is wanted.
+fn tell_swapped<E: Write>(path: &str, err: &mut E) {
+    let _ = writeln!(
+        err,
+        "msidb: {path}: a compound file, and no command file; the package stands first: `msidb run PACKAGE COMMANDS`"
+    );
 }
 
 // Tells why a file couldn't be read as a text.

@@ -1,11 +1,16 @@
 -- The command line: a word for what is to be done, and its paths.
 use Rattle.std.specs.Prelude.{true, codes, Some}
+use Rattle.clap.specs.Lexer.{usize_max}
 use Rattle.clap.specs.Words.{App, Rule, Text, new_app, new_rule, with_rule, with_subcommand}
 use Rattle.clap.specs.declared.builder.action.ArgAction.TheVariants.{SetTrue}
 
 -- a path, which must be there
 abbrev pub path : Text → Rule
 path id = record (new_rule id) { required = true }
+
+-- one file or more
+abbrev pub files : Rule
+files = record (path (codes "FILE")) { range = Some (record { start_inclusive = 1; end_inclusive = usize_max }) }
 
 -- the log behind `--log`, of which no more than one is named
 abbrev pub log_option : Rule
@@ -61,6 +66,14 @@ property_unset = or_summary (with_two (new_app (codes "unset")) (codes "PACKAGE"
 abbrev pub stream_moved : Text → Text → App
 stream_moved name file = with_rule (with_rule (with_two (new_app name) file (codes "STREAM")) (path (codes "PATH"))) log_option
 
+-- the word that gives tables the rows of files, with the log
+abbrev pub imported : App
+imported = with_rule (with_two (new_app (codes "import")) (codes "PACKAGE") (codes "PATH")) log_option
+
+-- the word that makes a package of a folder, with the log
+abbrev pub built : App
+built = with_rule (with_two (new_app (codes "build")) (codes "PACKAGE") (codes "FOLDER")) log_option
+
 -- the word that adopts a package: its own path, and that of the package that is read, which may be missing, with its log behind `--log`, and two
 -- flags
 abbrev pub sourced : App
@@ -100,9 +113,19 @@ shown = by_pages (with_rule tree_shown log_option)
 abbrev pub exported : App
 exported = by_pages (with_rule (with_rule (with_rule (new_app (codes "export")) (path (codes "FILE"))) (path (codes "FOLDER"))) log_option)
 
--- the word that judges a package: its path, its log, and two pages
+-- the word that judges packages: their paths, a flag, the log of one, and two pages
 abbrev pub checked : App
-checked = by_pages (with_rule (with_rule (new_app (codes "check")) (path (codes "FILE"))) log_option)
+checked = by_pages (with_rule (with_rule (with_rule (new_app (codes "check")) files) (flag (codes "places"))) log_option)
+
+-- the word that judges what packages hold: their paths, the log of one, the rules that are left out, and two pages
+abbrev pub ignore_option : Rule
+ignore_option = record (new_rule (codes "ignore")) { long = Some (codes "ignore"); value_names = 1 }
+
+abbrev pub contents_read : App
+contents_read = with_rule (with_rule (with_rule (new_app (codes "validate")) files) log_option) ignore_option
+
+abbrev pub contents_judged : App
+contents_judged = by_pages contents_read
 
 -- no word yet: one must be there, or a wish for help or version, and the program's own name isn't among the words
 abbrev pub bare : App
@@ -138,5 +161,17 @@ with_get = with_subcommand (with_subcommand with_adopt property_got.top) propert
 abbrev pub with_unset : App
 with_unset = with_subcommand (with_subcommand with_get property_unset.top) (stream_moved (codes "extract") (codes "FILE")).top
 
+abbrev pub with_put : App
+with_put = with_subcommand with_unset (stream_moved (codes "put") (codes "PACKAGE")).top
+
+-- and the one on files of exported tables
+abbrev pub with_imports : App
+with_imports = with_subcommand with_put imported.top
+
+-- and the one that judges what a package holds
+abbrev pub with_contents : App
+with_contents = with_subcommand with_imports contents_judged.top
+
+-- and the one that makes a package of a folder
 abbrev pub msidb : App
-msidb = with_subcommand with_unset (stream_moved (codes "put") (codes "PACKAGE")).top
+msidb = with_subcommand with_contents built.top

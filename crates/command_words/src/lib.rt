@@ -1,7 +1,6 @@
-//! The words of `msidb`'s command line: which there are, and what a line of them says.
+//! The words of `msidb`'s command line.
 #![tactic(auto)]
 
-mod line;
 mod words;
 
-pub use line::{Adoption, Line, Log, Pages, Parts, RunOptions, read_words};
+pub use words::matches;

@@ -1,7 +1,7 @@
 //! The words that the program takes.
 ghost use Rattle.std.specs.Prelude.{◌≡◌, codes, true, false, IfOk, IfErr, map, string_bytes};
 ghost use Rattle.clap.specs.Words.{app_of, kind_of, new_app, new_rule, rule_of, takes, with_rule, with_subcommand, HasMatchesOf};
-ghost use Rattle.command_words.specs.Words.{adopted, bare, by_pages, checked, exported, flag, log_option, msidb, on_package, page_option, path, property_got, property_set, property_unset, run, run_logged, run_quiet, or_summary, stream_moved, with_adopt, with_get, with_two, with_unset, shown, source_log_option, source_logged, sourced, streams_shown, summary_shown, table_shown, tree_shown, two_paths, validated, with_files, with_log, with_looks, without_run};
+ghost use Rattle.command_words.specs.Words.{adopted, bare, built, by_pages, checked, contents_judged, contents_read, exported, files, flag, ignore_option, imported, log_option, msidb, on_package, or_summary, page_option, path, property_got, property_set, property_unset, run, run_logged, run_quiet, shown, source_log_option, source_logged, sourced, stream_moved, streams_shown, summary_shown, table_shown, tree_shown, two_paths, validated, with_adopt, with_contents, with_files, with_get, with_imports, with_log, with_looks, with_put, with_two, with_unset, without_run};
 
 use clap::error::ErrorKind;
 use clap::{Arg, ArgAction, ArgMatches, Command, Error};
@@ -55,6 +55,14 @@ fn needed_path<'a>(alloc: Global, id: &'a str, help: &'a str) -> Arg<'a>
     ensures local { result.global ≡ false }
 {
     Arg::new(alloc, id).required(true).help(help)
+}
+
+// The paths of one package or more.
+fn needed_files<'a>(alloc: Global) -> Arg<'a>
+    ensures rule { rule_of result ≡ files }
+    ensures local { result.global ≡ false }
+{
+    needed_path(alloc, "FILE", "The package, or several").num_args(1..)
 }
 
 // The option that names the log.
@@ -282,10 +290,10 @@ fn with_file<'a>(alloc: Global) -> Result<Command<'a>, AllocError>
 
 // What stands behind the help of the word that judges a package.
 fn help_on_check<'a>() -> &'a str {
-    "Example: msidb check setup.msi\nPrints a line for each rule of a sound package that this one breaks, and behind it one for each text, table, object, stream or sector at fault, where these are known; for a sound one, nothing. Nothing is written.\nStatus: 0 sound, 1 not, 3 the file is no package, or can't be read."
+    "Examples: msidb check setup.msi\n          msidb check one.msi other.msi\nPrints a line for each rule of a sound package that this one breaks, and behind it one for each of the first three texts, tables, objects, streams or sectors at fault, where these are known, or with --places for all; for a sound one, nothing. Nothing is written. What streams contain isn't checked.\nOf several files each line has its file in front, and the status is the greatest; a file that can't be read keeps no other from being checked.\nTexts at several places of the string pool are told on stderr: libmsi and Wine's msi.dll miss rows by them.\nStatus: 0 sound, 1 not, 3 the file is no package, or can't be read."
 }
 
-// The word that judges a package, with the path of a file.
+// The word that judges packages, with the paths of files.
 fn with_judged<'a>(alloc: Global) -> Result<Command<'a>, AllocError>
     ensures { IfOk result (λ c. app_of c ≡ checked) }
 {
@@ -295,8 +303,14 @@ fn with_judged<'a>(alloc: Global) -> Result<Command<'a>, AllocError>
         "Tells which rules a package of any maker breaks",
         help_on_check(),
     );
-    let first = add(command, needed_path(alloc, "FILE", "The package"))?;
-    let logged = add(first, log_behind(alloc))?;
+    let first = add(command, needed_files(alloc))?;
+    let places = flag_of(
+        alloc,
+        "places",
+        "All places at which a rule is broken, and not the first three alone",
+    );
+    let second = add(first, places)?;
+    let logged = add(second, log_behind(alloc))?;
     by_pages(alloc, logged)
 }
 
@@ -328,7 +342,7 @@ fn with_folder<'a>(alloc: Global) -> Result<Command<'a>, AllocError>
 
 // What stands behind the help of the word that adopts a package.
 fn help_on_adopt<'a>() -> &'a str {
-    "Example: msidb adopt setup.msi other.msi\nMakes the package, and by its commit the log setup.msi.log. It holds what the other one does, and counts each text as often as cells use it. A package\nthat breaks further rules isn't adopted: they are told as `check` tells them, and nothing is made. The other package is only read.\nTables can be made and dropped only where there is a table _Validation: with --validation a package without one gets an empty one.\nWith --in-place the package is put right where it lies, in one commit: only the counts of its texts change, and of a sound one nothing does.\nStatus: 0 done, 1 rules are broken, 2 SOURCE and --in-place, or neither, 3 the file is no package, or there is a package already."
+    "Example: msidb adopt new.msi other.msi\nMakes the package new.msi, and by its commit the log new.msi.log. It holds what the other one does, and counts each text as often as cells use it, at one place of the string pool. A package\nthat breaks further rules isn't adopted: they are told as `check` tells them, and nothing is made. The other package is only read.\nTables can be made and dropped only where there is a table _Validation: with --validation a package without one gets an empty one.\nWith --in-place the package is put right where it lies, in one commit: only its string pool is written anew, with right counts, and code page 0 is named 65001 there. Of a sound one nothing is written. Texts at several places stay there, which is told.\nStatus: 0 done, 1 rules are broken, 2 SOURCE and --in-place, or neither, 3 the file is no package, or there is a package already."
 }
 
 // The word that adopts a package, with the paths of both.
@@ -338,7 +352,7 @@ fn with_source<'a>(alloc: Global) -> Result<Command<'a>, AllocError>
     let command = word(
         alloc,
         "adopt",
-        "Makes a package that can be changed of one whose texts are counted otherwise",
+        "Makes a copy of another maker's package that can be changed",
         help_on_adopt(),
     );
     let first = add(
@@ -434,7 +448,7 @@ fn or_summary<'a>(alloc: Global, command: Command<'a>) -> Result<Command<'a>, Al
 
 // What stands behind the help of the words on one property.
 fn help_on_properties<'a>() -> &'a str {
-    "Example: msidb set setup.msi ProductVersion 1.2.3\nA property is a row of the table Property. Each of these words commits once, or changes nothing.\nFields of the summary: title subject author keywords comments arch languages last_saved_by uuid last_printed creation_time last_saved_time\npage_count word_count character_count creating_application doc_security codepage. Several keywords or languages stand with commas between\nthem; a time is as 2024-09-05T08:53:20Z, in UTC.\nStatus: 0 done, 1 there is none, or a rule refused it, 3 a fault, or files that were refused."
+    "Examples: msidb get setup.msi ProductVersion\n          msidb set setup.msi ProductVersion 1.2.3\n          msidb unset setup.msi ALLUSERS\n          msidb get --summary setup.msi title\nA property is a row of the table Property. Each of these words commits once, or changes nothing.\nFields of the summary: title subject author keywords comments arch languages last_saved_by uuid last_printed creation_time last_saved_time\npage_count word_count character_count creating_application doc_security codepage. Several keywords or languages stand with commas between\nthem; a time is as 2024-09-05T08:53:20Z, in UTC.\nStatus: 0 done, 1 there is none, or a rule refused it, 3 a fault, or files that were refused."
 }
 
 // The word that tells a property.
@@ -503,7 +517,7 @@ fn with_property_unset<'a>(alloc: Global) -> Result<Command<'a>, AllocError>
 
 // What stands behind the help of the words on one stream.
 fn help_on_streams<'a>() -> &'a str {
-    "Example: msidb put setup.msi Binary.dialog dialog.dll\nBytes of a table's cell stand in the stream TABLE.KEY. `msidb list` tells the names.\nPATH of extract must not be there; the bytes are written to PATH.part, which gets the name at the end. put commits once, or changes nothing.\nStatus: 0 done, 1 there is no such stream, or a rule refused it, 3 a fault, or files that were refused."
+    "Examples: msidb extract setup.msi Binary.dialog dialog.dll\n          msidb put setup.msi Binary.dialog dialog.dll\nBytes of a table's cell stand in the stream TABLE.KEY. `msidb list` tells the names.\nPATH of extract must not be there; the bytes are written to PATH.part, which gets the name at the end. put commits once, or changes nothing.\nStatus: 0 done, 1 there is no such stream, or a rule refused it, 3 a fault, or files that were refused."
 }
 
 // A word that moves a stream.
@@ -540,7 +554,7 @@ fn with_extract<'a>(alloc: Global) -> Result<Command<'a>, AllocError>
 }
 
 // The word that puts a file into one.
-fn with_put<'a>(alloc: Global) -> Result<Command<'a>, AllocError>
+fn with_stored<'a>(alloc: Global) -> Result<Command<'a>, AllocError>
     ensures { IfOk result (λ c. app_of c ≡ stream_moved (codes "put") (codes "PACKAGE")) }
 {
     let command = word(
@@ -552,6 +566,80 @@ fn with_put<'a>(alloc: Global) -> Result<Command<'a>, AllocError>
     let package = needed_path(alloc, "PACKAGE", "The package");
     let from = needed_path(alloc, "PATH", "The file; - is standard input");
     with_moved(alloc, command, package, from)
+}
+
+// The word that gives tables the rows of files.
+fn with_import<'a>(alloc: Global) -> Result<Command<'a>, AllocError>
+    ensures { IfOk result (λ c. app_of c ≡ imported) }
+{
+    let command = word(
+        alloc,
+        "import",
+        "Gives tables the rows of exported files, and commits",
+        "Example: msidb import setup.msi Property.idt\nPATH is a file of an exported table (.idt), or a folder of such. A table that the package has loses its rows first; one that it lacks is made.\nThe files of bytes lie in a folder beside the file that has the table's name, or in _Streams. All files are read first, and all is one commit.\nStatus: 0 done, 1 a rule refused it, 2 a file is wrong, told with its line and column, 3 a fault, or files that were refused.",
+    );
+    let package = needed_path(alloc, "PACKAGE", "The package");
+    let from = needed_path(alloc, "PATH", "The file or the folder");
+    let both = with_two(command, package, from)?;
+    add(both, log_behind(alloc))
+}
+
+// What stands behind the help of the word that judges what a package holds.
+fn help_on_validate<'a>() -> &'a str {
+    "Examples: msidb validate setup.msi --ignore length,empty\n          msidb validate one.msi other.msi\nPrints a line of JSON for each finding: the rule, the table, the key of the row, the column, what stands there and what is wanted. Nothing is written.\nOf several files each finding names its file, and the status is the greatest; a file that can't be read keeps no other from being judged.\nRules: described nullable set range category foreign length key empty stream cabinet unused required product guid refers tree action. What each asks for stands in crates/package_rules/README.md, crates/column_rules/README.md and crates/product_rules/README.md.\nStatus: 0 nothing was found, 1 something was, 2 a rule that isn't one, 3 the file is no package, or can't be read."
+}
+
+// The option that names rules.
+fn ignore_behind<'a>(alloc: Global) -> Arg<'a>
+    ensures rule { rule_of result ≡ ignore_option }
+    ensures local { result.global ≡ false }
+{
+    Arg::new(alloc, "ignore")
+        .long("ignore")
+        .value_name("RULES")
+        .help("Rules that are left out, with commas between them")
+}
+
+// The word that judges what a package holds, but for the pages.
+fn with_contents_read<'a>(alloc: Global) -> Result<Command<'a>, AllocError>
+    ensures { IfOk result (λ c. app_of c ≡ contents_read) }
+{
+    let command = word(
+        alloc,
+        "validate",
+        "Tells which rules the contents of a package of any maker break",
+        help_on_validate(),
+    );
+    let first = add(command, needed_files(alloc))?;
+    with_two(first, log_behind(alloc), ignore_behind(alloc))
+}
+
+// The word that judges what a package holds.
+fn with_judged_contents<'a>(alloc: Global) -> Result<Command<'a>, AllocError>
+    ensures { IfOk result (λ c. app_of c ≡ contents_judged) }
+{
+    let command = with_contents_read(alloc)?;
+    by_pages(alloc, command)
+}
+
+// The word that makes a package of a folder.
+fn with_build<'a>(alloc: Global) -> Result<Command<'a>, AllocError>
+    ensures { IfOk result (λ c. app_of c ≡ built) }
+{
+    let command = word(
+        alloc,
+        "build",
+        "Makes a new package of an exported folder, and commits it",
+        "Example: msidb build setup.msi setup\nFOLDER is one that `msidb export` or `msidump -s -t` wrote: a file for each table (.idt), and _Streams. Code page and summary are those of\n_ForceCodepage.idt and _SummaryInformation.idt. All files are read first. What was made is opened and compared with the files before it is committed.\nStatus: 0 done, 1 no sound package says what the folder does, 2 a file is wrong, told with its line and column, 3 a fault, or there is a package already.",
+    );
+    let package = needed_path(
+        alloc,
+        "PACKAGE",
+        "The package, which is made and must not be there",
+    );
+    let folder = needed_path(alloc, "FOLDER", "The folder");
+    let both = with_two(command, package, folder)?;
+    add(both, log_behind(alloc))
 }
 
 // The program's name, without a word, and what stands around its help.
@@ -672,13 +760,40 @@ fn on_streams<'a>(alloc: Global) -> Result<Command<'a>, AllocError>
     with(first, extract)
 }
 
+// And the one that puts a file into a stream.
+fn on_puts<'a>(alloc: Global) -> Result<Command<'a>, AllocError>
+    ensures { IfOk result (λ c. app_of c ≡ with_put) }
+{
+    let put = with_stored(alloc)?;
+    let bare = on_streams(alloc)?;
+    with(bare, put)
+}
+
+// And the one that gives tables the rows of files.
+fn on_imports<'a>(alloc: Global) -> Result<Command<'a>, AllocError>
+    ensures { IfOk result (λ c. app_of c ≡ with_imports) }
+{
+    let import = with_import(alloc)?;
+    let bare = on_puts(alloc)?;
+    with(bare, import)
+}
+
+// And the one that judges what a package holds.
+fn on_contents<'a>(alloc: Global) -> Result<Command<'a>, AllocError>
+    ensures { IfOk result (λ c. app_of c ≡ with_contents) }
+{
+    let validate = with_judged_contents(alloc)?;
+    let bare = on_imports(alloc)?;
+    with(bare, validate)
+}
+
 // The program's words.
 fn definition<'a>(alloc: Global) -> Result<Command<'a>, AllocError>
     ensures { IfOk result (λ c. app_of c ≡ msidb) }
 {
-    let put = with_put(alloc)?;
-    let bare = on_streams(alloc)?;
-    with(bare, put)
+    let build = with_build(alloc)?;
+    let bare = on_contents(alloc)?;
+    with(bare, build)
 }
 
 // What was found among the words.

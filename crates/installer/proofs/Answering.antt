@@ -25,7 +25,7 @@ use Rattle.msi_stored.proofs.StoredLaws.{file_refl}
 use Rattle.msi_stored.specs.Changing.{PackageRule}
 use Rattle.installer.proofs.Faults.{own_fault_of}
 use Rattle.installer.proofs.Going.{err_is, goes_changes, goes_lost, goes_told, moves_on, no_commit, no_commit_read, not_ok, step_of_reading, step_refused, unchanging, unread, unwritten, unwritten_read, Moves, StepOr}
-use Rattle.installer.proofs.Resting.{keeps_rests, rests_on}
+use Rattle.msi_copies.proofs.Resting.{keeps_rests, rests_on}
 use Rattle.installer.proofs.Writing.{goes_writes}
 use Rattle.installer.specs.Behaviour.{BehavesOnce, is_answer_to}
 use Rattle.installer.specs.SessionStates.{SessionState, takes_room}

@@ -35,7 +35,7 @@ use Rattle.installer.proofs.Based.{base_of, same_storages, some_sound}
 use Rattle.installer.proofs.Faults.{fault_kinds}
 use Rattle.installer.proofs.Following.{marks_other, published_on, still}
 use Rattle.installer.proofs.Going.{package_live}
-use Rattle.installer.proofs.Resting.{keeps_rests}
+use Rattle.msi_copies.proofs.Resting.{keeps_rests}
 use Rattle.installer.proofs.Stopping.{survives_stay}
 use Rattle.installer.specs.Behaviour.{BehavesOnce}
 use Rattle.installer.specs.SessionStates.{baseless, broken, failed, led, over, rolls, running, unchanged, SessionState, SessionRollsBack, IsSessionFault}

@@ -8,13 +8,13 @@ ghost use Rattle.msi_columns.specs.Held.{columns_of};
 ghost use Rattle.std.specs.Prelude.{◌≡◌, false, OnOk};
 
 use crate::Answer;
-use crate::copies::copies_of;
 use crate::edits::apply_edit;
 use crate::session::SessionOver;
 use cfb_medium::{Error, Medium};
 use command_file::SummaryEdit;
 use msi_changes::{Delete, Insert, Update};
 use msi_columns::Column;
+use msi_copies::copies_of;
 use msi_texts::CodePage;
 
 // The answer of a command that gives nothing but that it was done.

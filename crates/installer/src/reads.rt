@@ -5,11 +5,11 @@ ghost use Rattle.msi_query.specs.Said.{query_of};
 ghost use Rattle.std.specs.Prelude.{◌≡◌, false};
 
 use crate::Answer;
-use crate::copies::{
-    copies_of, copies_of_properties, names_of_streams, names_of_tables, values_of_rows,
-};
 use crate::session::SessionOver;
 use cfb_medium::{Error, Medium};
+use msi_copies::{
+    copies_of, copies_of_properties, names_of_streams, names_of_tables, values_of_rows,
+};
 use msi_query::Select;
 
 impl<F: Medium> SessionOver<F> {

@@ -2,12 +2,15 @@
 #![tactic(auto)]
 
 mod adopt;
+mod answers;
 mod check;
 mod columns;
 mod containers;
 mod packages;
 mod places;
+mod twice;
 mod utf8;
 
 pub use adopt::{adopted_package, tell_unadopted};
-pub use check::check_package;
+pub use check::{Checking, check_package};
+pub use twice::tell_twice;

@@ -3,6 +3,7 @@ use cfb::{CaseMapper, CompoundFile, MemoryMedium};
 use cfb_medium::Error;
 use msi::{Defect, Package, defects};
 use msi_adopting::adopt;
+use msi_building::{has_texts_twice, texts_twice, with_texts_once};
 use msi_columns::Column;
 use msi_findings::{
     Miscount, miscounts, misnamed_tables, misplaced_objects, misshapen_validation,
@@ -16,7 +17,7 @@ use msi_store::read_parts;
 use msi_tables::Table;
 use msi_texts::decode;
 use package_files::{Names, Shown, shown_at};
-use package_views::{Pages, container_of, shown_by};
+use package_reading::{Pages, container_of, shown_by};
 use serde_json::Value as Json;
 use std::alloc::{AllocError, Global};
 use std::fs::File;
@@ -143,6 +144,15 @@ pub(crate) fn columns_wanted(alloc: Global) -> Result<Vec<Column>, Error> {
     validation_columns(alloc)
 }
 
+/// The least place of each text that stands at more places of the pool than its uses need. None where texts aren't given back by their code
+/// page, since two may then read as one.
+pub(crate) fn twice_in(alloc: Global, looked: &Looked) -> Result<Vec<u32>, Error> {
+    if !looked.parts.gives_back {
+        return Ok(Vec::new(alloc));
+    }
+    texts_twice(alloc, &looked.parts.pool)
+}
+
 /// The text of a property of the summary; the empty one where it has none.
 pub(crate) fn property_text(looked: &Looked, number: u32) -> &str {
     for (at, value) in looked.parts.summary.properties() {
@@ -173,33 +183,101 @@ pub(crate) fn quote(alloc: Global, text: &str) -> Result<String, AllocError> {
     Json::String(String::from_str(alloc, text)?).to_string(alloc)
 }
 
+/// A package in memory that is adopted.
+#[derive(Drop)]
+pub(crate) struct Adopted {
+    package: Package<MemoryMedium>,
+    // Whether texts may stand at more places of the pool than their uses need.
+    may_be_twice: bool,
+}
+
 /// A copy in memory of a package, as it is, or with its texts in UTF-8, of these pages, with right counts, which is sound. `InvalidData`
 /// where there is none.
 pub(crate) fn adopted_at<R: Files<File = File> + AllocGlobal>(
     rt: &R,
     names: &Names,
     pages: Option<Pages>,
-) -> Result<Package<MemoryMedium>, Error> {
+) -> Result<Adopted, Error> {
     let shown = source_at(rt, names, pages)?;
-    let mut file = container_of(rt.alloc(), shown)?;
-    let target = copy_of(rt.alloc(), &mut file)?;
-    let package = package_in(rt.alloc(), target)?;
-    if package.is_sound() {
-        Ok(package)
+    let target = copy_in(rt.alloc(), shown)?;
+    adopted_in(rt.alloc(), target)
+}
+
+// The bytes of a copy with right counts.
+fn copy_in(alloc: Global, shown: Shown) -> Result<MemoryMedium, Error> {
+    let mut file = container_of(alloc, shown)?;
+    copy_of(alloc, &mut file)
+}
+
+// The package of these bytes, if it is sound.
+fn adopted_in(alloc: Global, target: MemoryMedium) -> Result<Adopted, Error> {
+    let (target, may_be_twice) = looked_for_twice(alloc, target)?;
+    let package = package_in(alloc, target)?;
+    if is_sound(&package) {
+        Ok(Adopted {
+            package,
+            may_be_twice,
+        })
     } else {
         Err(Error::InvalidData)
     }
 }
 
 /// Gives a package an empty _Validation, where it has none.
-pub(crate) fn validate(package: &mut Package<MemoryMedium>) -> Result<(), Error> {
-    if package.has_table("_Validation") {
+pub(crate) fn validate(adopted: &mut Adopted) -> Result<(), Error> {
+    if has_validation(&adopted.package) {
         return Ok(());
     }
+    adopted.may_be_twice = true;
+    add_validation(&mut adopted.package)
+}
+
+fn is_sound(package: &Package<MemoryMedium>) -> bool {
+    package.is_sound()
+}
+
+fn has_validation(package: &Package<MemoryMedium>) -> bool {
+    package.has_table("_Validation")
+}
+
+fn add_validation(package: &mut Package<MemoryMedium>) -> Result<(), Error> {
     package.add_validation()
 }
 
-// The bytes of a copy with right counts.
+/// The package, in which each text stands at as few places of the pool as its uses need.
+pub(crate) fn with_joined_texts(
+    alloc: Global,
+    adopted: Adopted,
+) -> Result<Package<MemoryMedium>, Error> {
+    if !adopted.may_be_twice {
+        return Ok(adopted.package);
+    }
+    let medium = bytes_of(adopted.package)?;
+    let (medium, is_twice) = looked_for_twice(alloc, medium)?;
+    if is_twice {
+        joined_in(alloc, medium)
+    } else {
+        package_in(alloc, medium)
+    }
+}
+
+// The bytes of a package.
+fn bytes_of(package: Package<MemoryMedium>) -> Result<MemoryMedium, Error> {
+    match package.into_inner() {
+        Ok(medium) => Ok(medium),
+        Err((_medium, error)) => Err(error),
+    }
+}
+
+// Whether texts stand at more places than their uses need, and the bytes.
+fn looked_for_twice(alloc: Global, medium: MemoryMedium) -> Result<(MemoryMedium, bool), Error> {
+    has_texts_twice(alloc, medium)
+}
+
+fn joined_in(alloc: Global, medium: MemoryMedium) -> Result<Package<MemoryMedium>, Error> {
+    with_texts_once(alloc, medium)
+}
+
 fn copy_of(alloc: Global, file: &mut CompoundFile<Shown>) -> Result<MemoryMedium, Error> {
     let letters = CaseMapper::ascii(alloc)?;
     match adopt(alloc, file, MemoryMedium::new(alloc), letters) {

@@ -1,4 +1,5 @@
 //! Where a package breaks a rule on its container, on texts, tables or objects, a line each.
+use crate::answers::Answers;
 use crate::columns::{name_at, shape_at};
 use crate::containers::{
     Container, broken_in, container_at, name_in, shared_in, shared_minis_in, uncovered_in,
@@ -14,32 +15,38 @@ use msi::Defect;
 use msi_export::property_name;
 use msi_findings::Miscount;
 use msi_tables::Table;
-use package_files::{Names, Output};
-use package_views::Pages;
+use package_files::Names;
+use package_reading::Pages;
 use std::alloc::Global;
 use std::fs::File;
 use std::io::Write;
 use std::rc::Rc;
 use std::rt::Files;
 
-/// How a package is judged, and how its texts are told.
+/// How a package is judged, how its texts are told, and how many places.
 #[derive(Clone, Copy)]
 pub(crate) struct Reading {
     /// It is judged as it is, or with its texts in UTF-8, of these pages.
     pub(crate) judged: Option<Pages>,
     /// Its texts are told as they are judged, or as these pages read them.
     pub(crate) told: Option<Pages>,
+    /// Which words tell the places that aren't told here; where there are none, all places are.
+    pub(crate) rest: Option<&'static str>,
 }
 
-/// Writes each place at which a package breaks a rule, but that on the summary's sections and that on the rows of `_Tables`.
-/// `Device` where nothing can be written.
+/// How many places of a rule are told where there are words that tell the rest.
+pub(crate) const MOST: usize = 3;
+
+/// Writes the places at which a package breaks a rule, but that on the summary's sections and that on the rows of `_Tables`: all, or the
+/// first three and how many there are besides. Whether right counts would be all that the rule asks for. `Device` where nothing can be
+/// written.
 pub(crate) fn write_places<R: Files<File = File> + AllocGlobal, O: Write>(
     rt: &R,
     names: &Names,
     reading: Reading,
     defect: Defect,
-    out: &mut Output<'_, O>,
-) -> Result<(), Error> {
+    out: &mut Answers<'_, O>,
+) -> Result<bool, Error> {
     match defect {
         Defect::PoolTexts
         | Defect::SummaryTexts
@@ -50,21 +57,17 @@ pub(crate) fn write_places<R: Files<File = File> + AllocGlobal, O: Write>(
         | Defect::Counts => {
             let mut looked = looked_at(rt, names, reading.judged)?;
             let told = told_at(rt, names, reading.told)?;
-            let mut lines = Lines {
-                alloc: rt.alloc(),
-                out,
-            };
-            lines.places(defect, &mut looked, told.as_ref())
+            let mut lines = Lines::new(rt.alloc(), reading.rest, out);
+            lines.places(defect, &mut looked, told.as_ref())?;
+            lines.end()
         }
         Defect::Container => {
             let container = container_at(rt, names)?;
-            let mut lines = Lines {
-                alloc: rt.alloc(),
-                out,
-            };
-            lines.container(&container)
+            let mut lines = Lines::new(rt.alloc(), reading.rest, out);
+            lines.container(&container)?;
+            lines.end()
         }
-        Defect::SummarySections | Defect::ListedSystemTables => Ok(()),
+        Defect::SummarySections | Defect::ListedSystemTables => Ok(false),
     }
 }
 
@@ -84,10 +87,39 @@ fn told_at<R: Files<File = File> + AllocGlobal>(
 #[derive(Drop)]
 struct Lines<'a, 'b, O> {
     alloc: Global,
-    out: &'a mut Output<'b, O>,
+    out: &'a mut Answers<'b, O>,
+    rest: Option<&'static str>,
+    // How many places there are so far, also of those that aren't told.
+    count: usize,
+    // The rule is that on counts, and each text's uses can be counted.
+    is_recountable: bool,
 }
 
 impl<'a, 'b, O: Write> Lines<'a, 'b, O> {
+    fn new(alloc: Global, rest: Option<&'static str>, out: &'a mut Answers<'b, O>) -> Self {
+        Lines {
+            alloc,
+            out,
+            rest,
+            count: 0,
+            is_recountable: false,
+        }
+    }
+
+    // Tells how many places there are that weren't told, and whether right counts would be all that the rule asks for.
+    fn end(&mut self) -> Result<bool, Error> {
+        let left = self.count.saturating_sub(MOST);
+        if let Some(words) = self.rest {
+            if 0 < left {
+                let noun = if left == 1 { "place" } else { "places" };
+                self.out.line(&format!(in self.alloc;
+                    "  .. {left} more {noun} ({words} tells all)"
+                )?)?;
+            }
+        }
+        Ok(self.is_recountable)
+    }
+
     // The places at which one of the seven rules is broken; texts are told as they stand in the second package, if there is one.
     fn places(
         &mut self,
@@ -212,7 +244,10 @@ impl<'a, 'b, O: Write> Lines<'a, 'b, O> {
         let tables = unread_of(self.alloc, looked)?;
         self.tables(&tables, ": its rows can't be read")?;
         match miscounts_of(self.alloc, looked) {
-            Ok(found) => self.miscounts(told.unwrap_or(looked), &found),
+            Ok(found) => {
+                self.is_recountable = tables.is_empty();
+                self.miscounts(told.unwrap_or(looked), &found)
+            }
             Err(Error::InvalidData) if tables.is_empty() => self.line(UNCOUNTED),
             Err(Error::InvalidData) => Ok(()),
             Err(error) => Err(error),
@@ -239,8 +274,12 @@ impl<'a, 'b, O: Write> Lines<'a, 'b, O> {
         Ok(())
     }
 
-    // Writes a line. `Device` where it can't be written.
+    // Writes a line, unless so many are there that it isn't told. `Device` where it can't be written.
     fn line(&mut self, text: &str) -> Result<(), Error> {
+        self.count = self.count.saturating_add(1);
+        if self.rest.is_some() && MOST < self.count {
+            return Ok(());
+        }
         self.out.line(&format!(in self.alloc; "  {text}")?)
     }
 }

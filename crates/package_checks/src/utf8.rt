@@ -1,15 +1,17 @@
 //! Packages whose texts are to be put in UTF-8: what would be lost of them.
 ghost use Rattle.std.specs.Prelude.{◌≤◌, IfErr};
 
+use crate::answers::Answers;
 use crate::check::text_of;
 use crate::packages::{Looked, looked_at, property_text, quote, text_at};
 use crate::places::{Reading, write_places};
 use cfb_medium::Error;
 use msi::Defect;
 use msi_export::property_name;
-use package_files::{Names, Output, status_of_error};
-use package_views::{
-    Pages, PartRead, Reread, shown_by, tell_source, tell_why_refused, told_number,
+use package_files::{Names, status_of_error};
+use package_reading::{
+    Pages, PartRead, Reread, is_misnamed, shown_by, tell_source, tell_utf8_line, tell_why_refused,
+    told_number,
 };
 use std::alloc::Global;
 use std::fs::File;
@@ -17,8 +19,9 @@ use std::io::Write;
 use std::rt::Files;
 
 /// Refuses a package whose texts can't be put in UTF-8 as these pages read them: bytes without a character, texts with other bytes that read
-/// as one, a summary of several sections, or a compound file that isn't sound. Each is told by a line, and each place; the status is 1
-/// then, and 3 where the package can't be read, or nothing can be written.
+/// as one, a summary of several sections, or a compound file that isn't sound. Each is told by a line, and each place. Refused is a part in
+/// UTF-8, too, that names another page, unless the words say by which of the two it is read. The status is 1 then, and 3 where the package
+/// can't be read, or nothing can be written.
 pub(crate) fn check_texts<R: Files<File = File> + AllocGlobal, O: Write, E: Write>(
     rt: &R,
     names: &Names,
@@ -37,13 +40,37 @@ pub(crate) fn check_texts<R: Files<File = File> + AllocGlobal, O: Write, E: Writ
     };
     if is_whole(&reread) {
         tell_source(names.named(), &reread, err);
+        if is_misnamed(&reread.texts) || is_misnamed(&reread.summary) {
+            tell_misnamed(names.named(), &reread, err);
+            return Err(1);
+        }
         return Ok(());
     }
-    let mut out = Output::new(out);
+    let mut out = Answers::new(rt.alloc(), out);
     match write_losses(rt, names, pages, &reread, &mut out) {
-        Ok(()) => Err(1),
+        Ok(()) => {
+            tell_loss(names.named(), err);
+            tell_source(names.named(), &reread, err);
+            Err(1)
+        }
         Err(error) => Err(status_of_error(names.named(), error, out.broken(), 1, err)),
     }
+}
+
+// Tells that the words are to say which page is meant.
+fn tell_misnamed<E: Write>(path: &str, reread: &Reread, err: &mut E) {
+    let _ = writeln!(
+        err,
+        "msidb: {path}: not adopted: say by that option which of the two pages is meant"
+    );
+    tell_utf8_line(path, reread, err);
+}
+
+fn tell_loss<E: Write>(path: &str, err: &mut E) {
+    let _ = writeln!(
+        err,
+        "msidb: {path}: not adopted: its texts can't be put in UTF-8 as they are read"
+    );
 }
 
 // Whether nothing is lost.
@@ -61,30 +88,42 @@ fn write_losses<R: Files<File = File> + AllocGlobal, O: Write>(
     names: &Names,
     pages: Pages,
     reread: &Reread,
-    out: &mut Output<'_, O>,
+    out: &mut Answers<'_, O>,
 ) -> Result<(), Error> {
     if reread.texts.is_kept_back || reread.summary.is_kept_back {
         let reading = Reading {
             judged: None,
             told: None,
+            rest: None,
         };
         out.line(text_of(Defect::Container))?;
-        return write_places(rt, names, reading, Defect::Container, out);
+        write_places(rt, names, reading, Defect::Container, out)?;
+        return Ok(());
     }
     if 1 < reread.summary.sections {
         out.line(text_of(Defect::SummarySections))?;
     }
     let looked = looked_at(rt, names, Some(pages))?;
-    write_lacking_texts(rt.alloc(), &looked, &reread.texts, out)?;
-    write_joined(rt.alloc(), &looked, &reread.texts, out)?;
-    write_lacking_properties(rt.alloc(), &looked, &reread.summary, out)
+    write_lost(rt.alloc(), &looked, reread, out)
+}
+
+// Writes which texts would be lost. A function of its own, since a package that is held is dropped at each exit.
+fn write_lost<O: Write>(
+    alloc: Global,
+    looked: &Looked,
+    reread: &Reread,
+    out: &mut Answers<'_, O>,
+) -> Result<(), Error> {
+    write_lacking_texts(alloc, looked, &reread.texts, out)?;
+    write_joined(alloc, looked, &reread.texts, out)?;
+    write_lacking_properties(alloc, looked, &reread.summary, out)
 }
 
 fn write_lacking_texts<O: Write>(
     alloc: Global,
     looked: &Looked,
     part: &PartRead,
-    out: &mut Output<'_, O>,
+    out: &mut Answers<'_, O>,
 ) -> Result<(), Error> {
     if part.lacking.is_empty() {
         return Ok(());
@@ -102,7 +141,7 @@ fn write_joined<O: Write>(
     alloc: Global,
     looked: &Looked,
     part: &PartRead,
-    out: &mut Output<'_, O>,
+    out: &mut Answers<'_, O>,
 ) -> Result<(), Error> {
     if part.joined.is_empty() {
         return Ok(());
@@ -120,7 +159,7 @@ fn write_lacking_properties<O: Write>(
     alloc: Global,
     looked: &Looked,
     part: &PartRead,
-    out: &mut Output<'_, O>,
+    out: &mut Answers<'_, O>,
 ) -> Result<(), Error> {
     if part.lacking.is_empty() {
         return Ok(());

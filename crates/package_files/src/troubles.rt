@@ -46,6 +46,8 @@ pub enum Trouble {
     OtherCommit,
     /// It is a log with a commit that leads from another file, or a damaged one.
     UnfitCommit,
+    /// It has no bytes.
+    Empty,
     /// It is no compound file.
     NoContainer,
     /// It begins as a compound file.
@@ -77,7 +79,7 @@ impl Trouble {
             Trouble::OtherNames =>
                 "several names lead to this file, and its log would lie beside one of them; name a log by `--log`, or copy the file and change the copy",
             Trouble::NoSpace => "no space is left; `msidb recover` finishes what was begun",
-            Trouble::Folder => "a folder",
+            Trouble::Folder => "a folder, where a file is wanted",
             Trouble::NotRegular => "no regular file",
             Trouble::Hidden => "it can't be looked at",
             Trouble::InUse => "another program has it; try again when that has ended",
@@ -85,7 +87,7 @@ impl Trouble {
             Trouble::Unwritable => "it can't be written",
             Trouble::NoText => "no text in UTF-8",
             Trouble::NoCommands => "no list of commands",
-            Trouble::Present => "it is there already",
+            Trouble::Present => "it is there already; take another name",
             Trouble::NoLog =>
                 "no log of a package, so it is left as it is; name another by `--log`",
             Trouble::DoubtfulLog =>
@@ -94,8 +96,9 @@ impl Trouble {
             Trouble::OtherCommit => "it holds a commit of another package; name another by `--log`",
             Trouble::UnfitCommit =>
                 "its commit doesn't fit the package, so both are left as they are",
-            Trouble::NoContainer => "no compound file",
-            Trouble::DamagedContainer => "a damaged compound file",
+            Trouble::Empty => "the file is empty, and no package",
+            Trouble::NoContainer => "not a Windows Installer package (no compound file)",
+            Trouble::DamagedContainer => "a damaged compound file; get it anew from where it came",
             Trouble::OtherRoot =>
                 "a compound file, and no package: its root has another identifier",
             Trouble::NoSummary => "a compound file, and no package: it has no summary",

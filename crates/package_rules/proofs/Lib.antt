@@ -1,4 +1,5 @@
 -- Lemmas on places.
+pub mod AskedPut
 pub mod CellOrder
 pub mod EntriesPut
 pub mod FirstsPut

@@ -1,6 +1,6 @@
 -- What the list of broken keys tells.
-use Rattle.std.proofs.Common.{◌≡◌, ◌↔◌, ◌∙◌, ◌⊎◌, ⊎_elim, inl, inr, ℕ, zero, suc, ◌<◌, Bool, true, false, List, [], ◌∷◌, Option, Some, None, map, take, refl, sym, ap, subst, arith}
-use Rattle.std.specs.Prelude.{Contains, slice_get, position, ◌||◌}
+use Rattle.std.proofs.Common.{◌≡◌, ◌↔◌, ◌∙◌, ◌⊎◌, ⊎_elim, inl, inr, ℕ, zero, suc, ◌<◌, Bool, true, false, List, [], ◌∷◌, Option, Some, None, map, take, refl, sym, ap, ap₂, not, subst, arith}
+use Rattle.std.specs.Prelude.{Contains, slice_get, position, ◌&&◌, ◌||◌}
 use Rattle.std.specs.List.{list_any}
 use Rattle.std.specs.Option.{option_map_or}
 use Rattle.std.proofs.lemmas.List.Elements.{Contains-append_cases, Contains-append_left, Contains-append_right}
@@ -43,6 +43,11 @@ any_in f p (y ∷ ys) (suc j) (suc n) x l at h = ap (λ b. p (f y) || b) (any_in
     or_true : (b : Bool) → (b || true) ≡ true
     or_true true = refl
     or_true false = refl
+
+and_none : (a b : Bool) → (a && not b) ≡ true → (a ≡ true) × (b ≡ false)
+and_none true true h = absurd (cc h)
+and_none true false h = (refl, refl)
+and_none false b h = absurd (cc h)
 
 optional : {B : Type 0} (f : ℕ → List B) (o : Option ℕ) (y : B) → Contains (option_map_or f o []) y → (k : ℕ) × (o ≡ Some k) × Contains (f k) y
 optional f None y h = absurd (omega (arith, h.1))
@@ -103,11 +108,11 @@ module _ (L : ListingContent) (at : Place) where
   pub key_told : Contains (key_found L) at ↔ (IsNullKey L at ⊎ RepeatsKey L at)
   key_told = (
     λ h. ⊎_elim
-        (λ l. let f = cells_out (λ t c. c.key) (λ t c row d. is_null d) L at l in inl (f.0, f.1, f.2, no_null _ f.3))
+        (λ l. let f = cells_out (λ t c. c.key && not c.nullable) (λ t c row d. is_null d) L at l in let key = and_none f.0.column.key f.0.column.nullable f.2 in inl (f.0, f.1, key.0, key.1, no_null _ f.3))
         (λ r. inr (repeated_out r))
-        (Contains-append_cases (places_where (λ t c. c.key) (λ t c row d. is_null d) L) (repeated_found L) at h),
+        (Contains-append_cases (places_where (λ t c. c.key && not c.nullable) (λ t c row d. is_null d) L) (repeated_found L) at h),
     λ s. ⊎_elim
-        (λ l. Contains-append_left _ (repeated_found L) at (cells_in (λ t c. c.key) (λ t c row d. is_null d) L at (l.0, l.1, l.2, ap is_null l.3)))
-        (λ r. Contains-append_right (places_where (λ t c. c.key) (λ t c row d. is_null d) L) _ at (repeated_here r))
+        (λ l. Contains-append_left _ (repeated_found L) at (cells_in (λ t c. c.key && not c.nullable) (λ t c row d. is_null d) L at (l.0, l.1, ap₂ (λ a b. a && not b) l.2 l.3, ap is_null l.4)))
+        (λ r. Contains-append_right (places_where (λ t c. c.key && not c.nullable) (λ t c row d. is_null d) L) _ at (repeated_here r))
         s,
   )

@@ -9,7 +9,9 @@ use Rattle.std.specs.declared.alloc.Global.{Global}
 use Rattle.std.specs.declared.collections.BTreeMap.{BTreeMap}
 use Rattle.std.specs.declared.collections.BTreeSet.{BTreeSet}
 use Rattle.msi_listing.specs.Content.{CellContent, null, number, text, bytes}
+use Rattle.package_rules.specs.Asked.{ColumnSet, asks}
 use Rattle.package_rules.specs.Foreign.{Entry, is_entry}
+use Rattle.package_rules.specs.Lent.{lent}
 use Rattle.package_rules.specs.Parts.{said}
 use Rattle.package_rules.specs.Said.{column_in, speaks_of, tables_in}
 use Rattle.package_rules.specs.declared.names.ColumnName.{ColumnName}
@@ -27,10 +29,6 @@ Said = BTreeMap ColumnName (Bor (List CellContent)) Global
 abbrev pub AreFirsts : List (List CellContent) → Said → Type 0
 AreFirsts rows m = (q : ColumnName) → option_map (λ r. r.now) (get names.cmp m q) ≡ find (speaks_of q.table.now q.column.now) rows
 
--- a text that stands somewhere
-abbrev pub lent : List ℕ → Bor (List ℕ)
-lent t = record { ref_ptr = (0, 0); now = t }
-
 -- the row under the names of a table and a column
 abbrev pub said_at : Said → List ℕ → List ℕ → Option (List CellContent)
 said_at m table column = option_map (λ r. r.now) (get names.cmp m (record { table = lent table; column = lent column }))
@@ -43,9 +41,9 @@ CellSet = BTreeSet CellKey Global
 abbrev pub entry_of : CellKey → Entry
 entry_of k = record { table = k.table.now; column = k.column; cell = said k.cell }
 
--- the set has just these cells
-abbrev pub AreEntries : List Entry → CellSet → Type 0
-AreEntries es s = (q : CellKey) → contains keys.cmp s q ≡ list_any (λ e. is_entry e (entry_of q)) es
+-- in columns that are asked for the set has just these cells
+abbrev pub AreEntries : ColumnSet → List Entry → CellSet → Type 0
+AreEntries a es s = (q : CellKey) → asks a q.table.now q.column ≡ true → contains keys.cmp s q ≡ list_any (λ e. is_entry e (entry_of q)) es
 
 -- a cell that stands somewhere
 abbrev pub part_of : CellContent → Part
@@ -56,7 +54,7 @@ part_of bytes = part.Bytes
 
 -- the set has a cell of this table and column that holds this
 abbrev pub is_in : CellSet → List ℕ → ℕ → CellContent → Bool
-is_in s table column d = contains keys.cmp s (record { table = lent table; column = column; cell = part_of d })
+is_in s table column d = contains keys.cmp s (record { cell = part_of d; column = column; table = lent table })
 
 -- a row of `_Validation` names tables, and such a cell stands in its column of one of them
 abbrev pub leads_in : CellSet → List CellContent → CellContent → Bool

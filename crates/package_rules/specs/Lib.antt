@@ -1,8 +1,10 @@
 -- The rules that a package keeps.
+pub mod Asked
 pub mod Cells
 pub mod Firsts
 pub mod Foreign
 pub mod Keys
+pub mod Lent
 pub mod Needs
 pub mod Parts
 pub mod Places

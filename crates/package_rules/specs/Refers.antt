@@ -1,5 +1,5 @@
 -- Columns that are named for another table, as the standard tables of Windows Installer have them.
-use Rattle.std.specs.Prelude.{ℕ, false, not, ◌&&◌, List, Option, Some, None, is_some, codes, bytes_eq, if◌then◌else◌}
+use Rattle.std.specs.Prelude.{ℕ, false, not, ◌&&◌, List, [], ◌∷◌, Option, Some, None, is_some, codes, bytes_eq, if◌then◌else◌}
 use Rattle.std.specs.Option.{option_map_or}
 use Rattle.msi_listing.specs.Content.{ListingContent}
 use Rattle.package_rules.specs.Cells.{is_null}
@@ -18,6 +18,10 @@ target_of_column column =
     else if bytes_eq column (codes "Icon_") then Some (codes "Icon")
     else if bytes_eq column (codes "Dialog_") then Some (codes "Dialog")
     else None
+
+-- these tables
+abbrev pub all_targets : List (List ℕ)
+all_targets = codes "Component" ∷ codes "Feature" ∷ codes "File" ∷ codes "Directory" ∷ codes "Icon" ∷ codes "Dialog" ∷ []
 
 -- and one of these two tables for itself
 abbrev pub target_of : List ℕ → List ℕ → Option (List ℕ)

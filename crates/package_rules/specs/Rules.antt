@@ -15,9 +15,9 @@ use Rattle.package_rules.specs.declared.products.Needed.{Needed}
 abbrev pub nullable_found : ListingContent → List Place
 nullable_found L = places_where (λ t c. not c.nullable) (λ t c row d. is_null d) L
 
--- a null in a column of the key; behind these the rows that have the key of a row before them
+-- a null in a column of the key that takes none; behind these the rows that have the key of a row before them
 abbrev pub key_found : ListingContent → List Place
-key_found L = places_where (λ t c. c.key) (λ t c row d. is_null d) L ++ repeated_found L
+key_found L = places_where (λ t c. c.key && not c.nullable) (λ t c row d. is_null d) L ++ repeated_found L
 
 -- ---- texts
 

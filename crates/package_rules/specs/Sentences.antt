@@ -31,9 +31,9 @@ IsUntakenNull L at = (it : Found) × StandsAt L at it × (it.column.nullable ≡
 abbrev pub FailsAt : (TableContent → ColumnContent → Bool) → (TableContent → ColumnContent → List CellContent → CellContent → Bool) → ListingContent → Place → Type 0
 FailsAt speaks fails L at = (it : Found) × StandsAt L at it × (speaks it.table it.column ≡ true) × (fails it.table it.column it.row it.cell ≡ true)
 
--- a null in a column of the key
+-- a null in a column of the key that takes none
 abbrev pub IsNullKey : ListingContent → Place → Type 0
-IsNullKey L at = (it : Found) × StandsAt L at it × (it.column.key ≡ true) × (it.cell ≡ null)
+IsNullKey L at = (it : Found) × StandsAt L at it × (it.column.key ≡ true) × (it.column.nullable ≡ false) × (it.cell ≡ null)
 
 -- A row that has the key of a row before it in its table; it is told by the first column of the key.
 pub record RepeatsKey (L : ListingContent) (at : Place) : Type 0 where

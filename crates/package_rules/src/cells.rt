@@ -9,7 +9,7 @@ use msi_listing::{Cell, Column, Listing, Row, Table};
 use std::alloc::{AllocError, Global};
 
 /// A rule on each cell of some columns.
-pub(crate) trait CellRule<'a> {
+pub trait CellRule<'a> {
     ghost speaks: { Self → TableContent → ColumnContent → Bool };
 
     ghost fails: { Self → TableContent → ColumnContent → List CellContent → CellContent → Bool };
@@ -40,7 +40,7 @@ struct Spot<'a> {
 }
 
 /// The places of all cells that fail a rule. The one error is want of memory.
-pub(crate) fn places_where<'a, R: CellRule<'a>>(
+pub fn places_where<'a, R: CellRule<'a>>(
     alloc: Global,
     listing: &'a Listing,
     rule: &R,

@@ -8,6 +8,7 @@ ghost use Rattle.package_rules.specs.Firsts.{is_in, leads_in, said_at};
 ghost use Rattle.package_rules.specs.Foreign.{foreign_found};
 ghost use Rattle.package_rules.specs.Said.{column_in, column_of, is_free, tables_in, words_in};
 
+use crate::asked::asked_in;
 use crate::cells::{CellRule, places_where};
 use crate::entries::{CellKey, entries_in, is_in};
 use crate::names::ColumnName;
@@ -54,7 +55,7 @@ impl<'a> CellRule<'a> for ForeignKeys<'a> {
 }
 
 /// The row of `_Validation` that speaks of a column.
-pub(crate) fn row_of<'a>(
+pub fn row_of<'a>(
     said: &BTreeMap<ColumnName<'a>, &'a Row>,
     table: &'a Table,
     column: &'a Column,
@@ -68,8 +69,8 @@ pub(crate) fn row_of<'a>(
     said.get(&name).copied()
 }
 
-// The text of a cell, if it is one that isn't empty.
-fn words_of(cell: Option<&Cell>) -> Option<&str>
+/// The text of a cell, if it is one that isn't empty.
+pub fn words_of(cell: Option<&Cell>) -> Option<&str>
     ensures { option_copied result ≡ option_map_or (λ c. words_in (cell_of c.now)) cell.entry None }
 {
     match cell {
@@ -78,8 +79,8 @@ fn words_of(cell: Option<&Cell>) -> Option<&str>
     }
 }
 
-// Whether a row of `_Validation` leaves the values free.
-fn is_free(category: Option<&str>) -> bool
+/// Whether a category in a row of `_Validation` lets other values than keys stand for themselves.
+pub fn is_free(category: Option<&str>) -> bool
     ensures { result ≡ is_free (option_copied category.entry) }
 {
     match category {
@@ -102,8 +103,8 @@ pub(crate) fn tables_of(row: &Row) -> Option<&str>
     words_of(cells.get(5))
 }
 
-// The number of their column.
-fn column_of(row: &Row) -> usize
+/// The number of their column.
+pub(crate) fn column_of(row: &Row) -> usize
     ensures { result ≡ column_in row.now }
 {
     match row.cells().get(6) {
@@ -142,8 +143,8 @@ fn is_in_one<'a>(
     Ok(is_in_any(entries, &parts, column, cell))
 }
 
-// The parts of a text between semicolons.
-fn parts_of(alloc: Global, text: &str) -> Result<Vec<&str>, AllocError>
+/// The parts of a text between semicolons.
+pub(crate) fn parts_of(alloc: Global, text: &str) -> Result<Vec<&str>, AllocError>
     ensures { IfOk result (λ parts. map (λ p. p.now) parts.items
         ≡ slice_split (λ b. b == 59) text.now) }
 {
@@ -172,7 +173,8 @@ pub fn lost_keys(alloc: Global, listing: &Listing) -> Result<Vec<Place>, AllocEr
     ensures { IfOk result (λ found. found.items ≡ foreign_found listing.now) }
 {
     let said = said_in(alloc, listing)?;
-    let entries = entries_in(alloc, listing)?;
+    let asked = asked_in(alloc, listing)?;
+    let entries = entries_in(alloc, listing, &asked)?;
     let rule = ForeignKeys {
         alloc,
         said,

@@ -1,5 +1,5 @@
 //! Keys with nulls, and keys that stand twice.
-ghost use Rattle.std.specs.Prelude.{◌≡◌, ◌++◌, IfOk, OnOk, position};
+ghost use Rattle.std.specs.Prelude.{◌≡◌, ◌++◌, ◌&&◌, not, IfOk, OnOk, position};
 ghost use Rattle.package_rules.specs.Cells.{is_null};
 ghost use Rattle.package_rules.specs.Rules.{key_found};
 ghost use Rattle.package_rules.specs.Keys.{repeated_found, repeated_in, repeated_rows};
@@ -14,12 +14,12 @@ use std::collections::BTreeSet;
 struct NullKeys;
 
 impl<'a> CellRule<'a> for NullKeys {
-    ghost speaks = { λ _ _ c. c.key };
+    ghost speaks = { λ _ _ c. c.key && not c.nullable };
 
     ghost fails = { λ _ _ _ _ d. is_null d };
 
     fn speaks(&self, _table: &'a Table, column: &'a Column) -> bool {
-        column.is_key()
+        column.is_key() && !column.is_nullable()
     }
 
     fn fails(
@@ -33,7 +33,7 @@ impl<'a> CellRule<'a> for NullKeys {
     }
 }
 
-/// The cells of keys that hold nothing; behind them, by the first column of their key, the rows that have the key of a row before them in
+/// The cells of keys that hold nothing, though their columns take no null; behind them, by the first column of their key, the rows that have the key of a row before them in
 /// their table. The one error is want of memory.
 pub fn broken_keys(alloc: Global, listing: &Listing) -> Result<Vec<Place>, AllocError>
     ensures { IfOk result (λ found. found.items ≡ key_found listing.now) }

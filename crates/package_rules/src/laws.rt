@@ -17,13 +17,13 @@ pub fn nullable_is_kept()
     ensures { (L : ListingContent) → (nullable_found L ≡ []) ↔ ((at : Place) → ¬ (IsUntakenNull L at)) }
 {}
 
-/// A place is told just where the cell there is a null in a key, or where its row, by the first column of the key, has the key of a row before it.
+/// A place is told just where the cell there is a null in a column of the key that takes none, or where its row, by the first column of the key, has the key of a row before it.
 pub fn key_is_told()
     ensures { (L : ListingContent) (at : Place) → Contains (key_found L) at
         ↔ (IsNullKey L at ⊎ RepeatsKey L at) }
 {}
 
-/// None is told just where no key has a null, and no row the key of a row before it.
+/// None is told just where no key has a null in a column that takes none, and no row the key of a row before it.
 pub fn key_is_kept()
     ensures { (L : ListingContent) → (key_found L ≡ [])
         ↔ ((at : Place) → ¬ (IsNullKey L at ⊎ RepeatsKey L at)) }

@@ -2,7 +2,9 @@
 
 /// A column by the name of its table and its own.
 #[derive(Clone, Copy, Debug, PartialEq, Eq, PartialOrd, Ord)]
-pub(crate) struct ColumnName<'a> {
-    pub(crate) table: &'a str,
-    pub(crate) column: &'a str,
+pub struct ColumnName<'a> {
+    /// The name of its table.
+    pub table: &'a str,
+    /// Its own name.
+    pub column: &'a str,
 }

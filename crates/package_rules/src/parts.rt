@@ -9,7 +9,7 @@ use std::alloc::{AllocError, Global};
 
 /// What a cell holds, whose text stands there.
 #[derive(Clone, Copy, Debug, PartialEq, Eq, PartialOrd, Ord)]
-pub(crate) enum Part<'a> {
+pub enum Part<'a> {
     /// Nothing.
     Null,
     /// A number.

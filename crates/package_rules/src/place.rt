@@ -16,7 +16,7 @@ pub struct Place {
 }
 
 /// Adds a place, if it is one.
-pub(crate) fn push_if(found: &mut Vec<Place>, is_one: bool, place: Place) -> Result<(), AllocError>
+pub fn push_if(found: &mut Vec<Place>, is_one: bool, place: Place) -> Result<(), AllocError>
     ensures { OnOk result (found.new.items
         ≡ found.old.items ++ place_if is_one place.table place.column place.row) }
 {

@@ -1,12 +1,15 @@
 //! Cells of columns that are named for another table, and that lead to no row of it.
 ghost use Rattle.std.specs.Prelude.{◌≡◌, not, ◌&&◌, IfOk, is_some, false, true};
+ghost use Rattle.std.specs.List.{list_all};
 ghost use Rattle.std.specs.Option.{option_copied, option_map_or};
 ghost use Rattle.msi_listing.specs.HeldCell.{cell_of};
+ghost use Rattle.package_rules.specs.Asked.{asks};
 ghost use Rattle.package_rules.specs.Cells.{is_null};
 ghost use Rattle.package_rules.specs.Firsts.{is_in, said_at};
-ghost use Rattle.package_rules.specs.Refers.{refers_found, target_of, target_of_column};
+ghost use Rattle.package_rules.specs.Refers.{all_targets, refers_found, target_of, target_of_column};
 ghost use Rattle.package_rules.specs.Said.{tables_in};
 
+use crate::asked::{ColumnAt, add_parts};
 use crate::cells::{CellRule, places_where};
 use crate::entries::{CellKey, entries_in, is_in};
 use crate::foreign::{row_of, tables_of};
@@ -101,13 +104,31 @@ fn target_of_column(column: &str) -> Option<&'static str>
     None
 }
 
+// The first columns of the tables for which columns are named.
+fn asked_targets<'a>(alloc: Global) -> Result<BTreeSet<ColumnAt<'a>>, AllocError>
+    ensures { IfOk result (λ asked. list_all (λ table. asks asked table 1) all_targets ≡ true) }
+{
+    let mut asked = BTreeSet::new(alloc);
+    let tables = [
+        "Component",
+        "Feature",
+        "File",
+        "Directory",
+        "Icon",
+        "Dialog",
+    ];
+    add_parts(&mut asked, &tables, 1)?;
+    Ok(asked)
+}
+
 /// The cells that hold something, in a column that is named for another table, as `Component_` is, and that aren't in the first column of
 /// that table. Columns for which `_Validation` names tables are passed over. The one error is want of memory.
 pub fn lost_references(alloc: Global, listing: &Listing) -> Result<Vec<Place>, AllocError>
     ensures { IfOk result (λ found. found.items ≡ refers_found listing.now) }
 {
     let said = said_in(alloc, listing)?;
-    let entries = entries_in(alloc, listing)?;
+    let asked = asked_targets(alloc)?;
+    let entries = entries_in(alloc, listing, &asked)?;
     let rule = References { said, entries };
     places_where(alloc, listing, &rule)
 }

@@ -13,7 +13,7 @@ use std::collections::BTreeMap;
 
 /// The rows of `_Validation` under the columns of which they speak; the first one, where several speak of one. The one error is want of
 /// memory.
-pub(crate) fn said_in<'a>(
+pub fn said_in<'a>(
     alloc: Global,
     listing: &'a Listing,
 ) -> Result<BTreeMap<ColumnName<'a>, &'a Row>, AllocError>

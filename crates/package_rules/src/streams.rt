@@ -44,8 +44,8 @@ impl<'a> CellRule<'a> for BytesInStreams {
     }
 }
 
-// The name of the stream of a row.
-fn name_of_stream(alloc: Global, table: &Table, row: &Row) -> Result<String, AllocError>
+/// The name of the stream of a row: its table and the cells of its key, with a dot before each of these. The one error is want of memory.
+pub fn name_of_stream(alloc: Global, table: &Table, row: &Row) -> Result<String, AllocError>
     ensures { IfOk result (λ name. string_bytes name ≡ stream_name table.now row.now) }
 {
     let mut name = String::from_str(alloc, table.name())?;
@@ -75,8 +75,8 @@ fn push_part(name: &mut String, part: &Part<'_>) -> Result<(), AllocError>
     }
 }
 
-// The names of the streams.
-fn names_of_streams(alloc: Global, listing: &Listing) -> Result<BTreeSet<String>, AllocError>
+/// The names of the streams.
+pub fn names_of_streams(alloc: Global, listing: &Listing) -> Result<BTreeSet<String>, AllocError>
     ensures { IfOk result (λ names. (q : List ℕ) → contains_text names q ≡ has_stream listing.now q) }
 {
     let mut names = BTreeSet::new(alloc);

@@ -2,13 +2,10 @@
 ghost use Rattle.std.specs.Prelude.{◌≤◌};
 
 use crate::folder::{Target, Written, trouble_of_folder};
-use crate::packages::{Stored, stored_at};
-use crate::pages::Pages;
-use crate::refusals::tell_why_refused;
-use crate::reread::{Reread, package_by};
 use cfb_medium::Error;
 use msi::Package;
 use package_files::{Names, Shown, Trouble, check_shown, tell_error, tell_failure, tell_trouble};
+use package_reading::{Pages, Reread, Stored, Told, package_by, stored_at, tell_why_refused};
 use std::alloc::{AllocError, Global};
 use std::fs::{self, File};
 use std::io::{self, Write};
@@ -51,7 +48,7 @@ fn read_package<R: Files<File = File> + AllocGlobal, E: Write>(
     pages: Pages,
     err: &mut E,
 ) -> Result<(Package<Shown>, Reread, Stored), Error> {
-    let (package, reread) = package_by(rt, names, pages, err)?;
+    let (package, reread) = package_by(rt, names, pages, Told::both(), err)?;
     let stored = stored_at(rt, names)?;
     let page = if reread.texts.is_rewritten {
         UTF8

@@ -1,14 +1,13 @@
 //! One stream of a package as a file.
 ghost use Rattle.std.specs.Prelude.{◌≤◌};
 
-use crate::packages::bytes_of;
-use crate::refusals::tell_why_refused;
-use crate::reread::package_as_named;
 use cfb_medium::Error;
+use msi_texts::is_valid;
 use package_files::{
     Names, Trouble, check_shown, tell, tell_failure, tell_part, tell_trouble, tell_unwritten,
     trouble_of_kind,
 };
+use package_reading::{bytes_of, package_as_named, tell_why_refused};
 use std::alloc::Global;
 use std::fs::{self, File};
 use std::io::{self, Write};
@@ -43,6 +42,16 @@ pub fn extract_stream<'a, R: Files<File = File> + AllocGlobal, O: Write, E: Writ
         Ok(bytes) => keep_bytes(rt, path, &bytes, err),
         Err(error) => tell_unread(names.named(), stream, error, err),
     }
+}
+
+/// Whether a stream can have this name.
+pub fn is_stream_name(name: &str) -> bool {
+    let has_mark = name
+        .as_bytes()
+        .iter()
+        .any(|byte| matches!(byte, b'/' | b'\\' | b':' | b'!'));
+    // (those of summaries and signatures begin with 05)
+    is_valid(name, false) && !has_mark && !name.as_bytes().starts_with(&[5])
 }
 
 // Tells why a stream wasn't read, and gives the status.
@@ -87,11 +96,12 @@ fn keep_bytes<R: Files<File = File> + AllocGlobal, E: Write>(
         tell("out of memory", err);
         return 3;
     };
-    if let Some(taken) = [path, part.as_str()]
-        .into_iter()
-        .find(|it| fs::symlink_metadata(rt, *it).is_ok())
-    {
-        tell_trouble(taken, Trouble::Present, err);
+    if fs::symlink_metadata(rt, path).is_ok() {
+        tell_trouble(path, Trouble::Present, err);
+        return 3;
+    }
+    if fs::symlink_metadata(rt, part.as_str()).is_ok() {
+        tell_left(&part, err);
         return 3;
     }
     match write_file(rt, path, &part, bytes) {
@@ -102,6 +112,14 @@ fn keep_bytes<R: Files<File = File> + AllocGlobal, E: Write>(
             3
         }
     }
+}
+
+// Tells of a file under which the new one is to be written first.
+fn tell_left<E: Write>(part: &str, err: &mut E) {
+    let _ = writeln!(
+        err,
+        "msidb: {part}: it is there already; if it is left of an extract that was cut short, remove it"
+    );
 }
 
 fn part_name(alloc: Global, path: &str) -> Result<String, Error> {

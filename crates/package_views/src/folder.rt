@@ -1,8 +1,4 @@
 //! The folder that an export writes.
-use crate::packages::{
-    Stored, bytes_of, columns_of, has_stream, kind_of, properties_of, rows_of, streams_of,
-    table_named, tables_of,
-};
 use cfb_medium::Error;
 use msi::Package;
 use msi_export::{
@@ -12,6 +8,10 @@ use msi_export::{
 use msi_spec::PackageType;
 use msi_tables::Row;
 use package_files::{Shown, Trouble, tell_part, tell_trouble, trouble_of_kind};
+use package_reading::{
+    Stored, bytes_of, columns_of, has_stream, kind_of, properties_of, rows_of, streams_of,
+    table_named, tables_of,
+};
 use std::alloc::{AllocError, Global};
 use std::collections::BTreeSet;
 use std::fs::{self, File};

@@ -1,11 +1,12 @@
 //! The rows of a table in aligned columns, for a person who reads them on a terminal.
-use crate::packages::{columns_of, text_of_json, value_of_cell};
+use crate::json::{text_of_json, value_of_cell};
 use cfb_medium::Error;
 use msi::Package;
 use msi_columns::{Column, ColumnType};
 use msi_tables::{Row, Rows};
 use msi_values::Value;
 use package_files::Shown;
+use package_reading::columns_of;
 use std::alloc::{AllocError, Global};
 use text_columns::{Cell, Side, escaped, table_lines};
 

@@ -1,21 +1,19 @@
 //! One property of a package, or one field of its summary, as a text.
 ghost use Rattle.std.specs.Prelude.{◌≤◌};
 
-use crate::own::{SummaryPage, page_in_summary};
-use crate::packages::{
-    columns_of, package_at, properties_of, rows_of, table_named, text_of_json, value_of_property,
-};
-use crate::pages::Pages;
-use crate::refusals::tell_why_refused;
-use crate::reread::package_by;
+use crate::json::{text_of_json, value_of_property};
 use cfb_medium::Error;
 use msi::Package;
-use msi_columns::Column;
+use msi_columns::{Column, ColumnType};
 use msi_export::moment_text;
 use msi_props::PropertyValue;
 use msi_tables::Row;
 use msi_values::Value;
 use package_files::{Names, Output, Shown, check_shown, status_of_error, tell_failure, tell_part};
+use package_reading::{
+    Pages, SummaryPage, Told, columns_of, package_at, package_by, page_in_summary, properties_of,
+    rows_of, table_named, tell_why_refused,
+};
 use serde_json::Value as Json;
 use std::alloc::{AllocError, Global};
 use std::fs::File;
@@ -56,22 +54,22 @@ pub fn get_property<'a, R: Files<File = File> + AllocGlobal, O: Write, E: Write>
         tell_failure(names, failure, err);
         return 3;
     }
-    let (mut package, reread) = match package_by(rt, names, pages, err) {
+    let told = Told {
+        texts: !is_field,
+        summary: is_field,
+    };
+    let (mut package, reread) = match package_by(rt, names, pages, told, err) {
         Ok(read) => read,
         Err(error) => {
             tell_why_refused(rt, names, error, err);
             return 3;
         }
     };
-    let sought = if is_field {
-        field_in(rt.alloc(), &package, page_in_summary(&reread.summary), name)
-    } else {
-        property_in(rt.alloc(), &mut package, name)
-    };
-    match sought {
+    let page = page_in_summary(&reread.summary);
+    match sought_in(rt.alloc(), &mut package, page, name, is_field) {
         Ok(Sought::Value(text)) => print_value(names.named(), &text, out, err),
         Ok(sought) => {
-            tell_nothing(names.named(), name, &sought, err);
+            tell_nothing(names.named(), name, is_field, &sought, err);
             1
         }
         Err(error) => {
@@ -86,20 +84,90 @@ pub fn get_property<'a, R: Files<File = File> + AllocGlobal, O: Write, E: Write>
     }
 }
 
-/// Whether a package as a recovery would leave it has a property, or its summary a field. It is only read.
-pub fn has_property<R: Files<File = File> + AllocGlobal>(
+// What is found under a name in a package, of the page of whose summary this is told.
+fn sought_in(
+    alloc: Global,
+    package: &mut Package<Shown>,
+    page: SummaryPage,
+    name: &str,
+    is_field: bool,
+) -> Result<Sought, Error> {
+    if is_field {
+        field_in(alloc, package, page, name)
+    } else {
+        property_in(alloc, package, name)
+    }
+}
+
+/// Whether a package as a recovery would leave it can be read and has no property of a name, or its summary no such field, which is told. It is
+/// only read.
+pub fn lacks_property<R: Files<File = File> + AllocGlobal, E: Write>(
     rt: &R,
     names: &Names,
     name: &str,
     is_field: bool,
-) -> Result<bool, Error> {
+    err: &mut E,
+) -> bool {
+    match sought_at(rt, names, name, is_field) {
+        Ok(Sought::Value(_)) | Err(_) => false,
+        Ok(sought) => {
+            tell_nothing(names.named(), name, is_field, &sought, err);
+            true
+        }
+    }
+}
+
+fn sought_at<R: Files<File = File> + AllocGlobal>(
+    rt: &R,
+    names: &Names,
+    name: &str,
+    is_field: bool,
+) -> Result<Sought, Error> {
     let mut package = package_at(rt, names)?;
-    let sought = if is_field {
-        field_in(rt.alloc(), &package, SummaryPage::AsRead, name)?
-    } else {
-        property_in(rt.alloc(), &mut package, name)?
+    sought_in(
+        rt.alloc(),
+        &mut package,
+        SummaryPage::AsRead,
+        name,
+        is_field,
+    )
+}
+
+/// Why no property of a package can have a name, by the first column of its table.
+#[derive(Clone, Copy, Debug)]
+pub enum NameFault {
+    /// It has more characters than so many.
+    TooLong(usize),
+    /// It isn't of the category that the column has.
+    NotOf(&'static str),
+}
+
+/// Why no property of a package, as a recovery would leave it, can have a name; nothing where one can, or where it isn't known. It is only
+/// read.
+pub fn name_fault<R: Files<File = File> + AllocGlobal>(
+    rt: &R,
+    names: &Names,
+    name: &str,
+) -> Option<NameFault> {
+    match package_at(rt, names) {
+        Ok(package) => fault_in(columns_of(&package, TABLE), name),
+        Err(_) => None,
+    }
+}
+
+fn fault_in(columns: &[Column], name: &str) -> Option<NameFault> {
+    let column = columns.iter().find(|it| it.name() == TABLE)?;
+    let most = match column.coltype() {
+        ColumnType::Str(most) => most,
+        _ => 0,
     };
-    Ok(matches!(sought, Sought::Value(_)))
+    if 0 < most && most < name.chars().count() {
+        return Some(NameFault::TooLong(most));
+    }
+    match column.category() {
+        Some(category) if !category.validate(name) => Some(NameFault::NotOf(category.as_str())),
+        _ => None,
+    }
 }
 
 // Prints a value on a line. The status is 0 where it was printed, or nobody reads it.
@@ -114,15 +182,22 @@ fn print_value<O: Write, E: Write>(path: &str, text: &str, out: &mut O, err: &mu
 }
 
 // Tells why there is no value.
-fn tell_nothing<E: Write>(path: &str, name: &str, sought: &Sought, err: &mut E) {
+fn tell_nothing<E: Write>(path: &str, name: &str, is_field: bool, sought: &Sought, err: &mut E) {
     let _ = match sought {
-        Sought::NoTable => writeln!(err, "msidb: {path}: no table {TABLE}"),
+        Sought::NoTable => writeln!(err, "msidb: {path}: no table {TABLE}, and so no property"),
         Sought::NoField => writeln!(
             err,
             "msidb: {path}: no summary has a field {name}; `msidb get --help` tells the fields"
         ),
         _ if name.is_empty() => writeln!(err, "msidb: {path}: nothing has an empty name"),
-        _ => writeln!(err, "msidb: {path}: no {name}"),
+        _ if is_field => writeln!(
+            err,
+            "msidb: {path}: its summary has no {name}; `msidb show {path} --summary` tells what it has"
+        ),
+        _ => writeln!(
+            err,
+            "msidb: {path}: no property {name} (case counts); `msidb show {path} {TABLE}` lists them"
+        ),
     };
 }
 

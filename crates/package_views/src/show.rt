@@ -2,17 +2,10 @@
 ghost use Rattle.std.specs.Prelude.{◌≤◌};
 
 use crate::grids::grid_lines;
-use crate::own::{Own, SummaryPage, own_facts};
-use crate::packages::{
-    facts_of, is_signed, kind_of, properties_of, rows_of, streams_of, table_named, tables_of,
-    text_of_json, value_of_cell, value_of_property,
-};
-use crate::pages::Pages;
-use crate::refusals::tell_why_refused;
-use crate::reread::package_by;
+use crate::json::{text_of_json, value_of_cell, value_of_property};
 use crate::tree::{tree_at, write_tree};
 use cfb_medium::Error;
-use command_words::Parts;
+use command_options::Parts;
 use installer::columns_value;
 use msi::Package;
 use msi_columns::Column;
@@ -21,6 +14,10 @@ use msi_props::PropertyValue;
 use msi_tables::{Row, Rows};
 use package_files::{
     Names, Output, Shown as ShownFile, check_shown, status_of_error, tell_failure, tell_part,
+};
+use package_reading::{
+    Own, Pages, SummaryPage, Told, facts_of, is_signed, kind_of, name_of_page, own_facts,
+    package_by, properties_of, rows_of, streams_of, table_named, tables_of, tell_why_refused,
 };
 use serde_json::{Value as Json, json};
 use std::alloc::{AllocError, Global};
@@ -68,7 +65,7 @@ pub fn show_package<'a, R: Files<File = File> + AllocGlobal, O: Write, E: Write>
             return status;
         }
     }
-    let (mut package, reread) = match package_by(rt, names, pages, err) {
+    let (mut package, reread) = match package_by(rt, names, pages, told_of(parts), err) {
         Ok(read) => read,
         Err(error) => {
             tell_why_refused(rt, names, error, err);
@@ -82,6 +79,17 @@ pub fn show_package<'a, R: Files<File = File> + AllocGlobal, O: Write, E: Write>
         Ok(Shown::NoTable) => 1,
         Ok(Shown::Partly) => 3,
         Err(error) => status_of_error(names.named(), error, page.out.broken(), 0, page.err),
+    }
+}
+
+// Of which parts it is told how they were read: of those that are shown.
+fn told_of(parts: Parts<'_>) -> Told {
+    if parts.table.is_none() && !parts.summary && !parts.streams {
+        return Told::both();
+    }
+    Told {
+        texts: parts.table.is_some(),
+        summary: parts.summary,
     }
 }
 
@@ -195,7 +203,12 @@ impl<'a, O: Write, E: Write> Page<'a, O, E> {
     }
 
     fn show_value(&mut self, number: u32, value: &PropertyValue) -> Result<(), Error> {
-        let line = numbered_value(self.alloc, number, value)?;
+        let page = if self.is_terminal {
+            page_named(number, value)
+        } else {
+            None
+        };
+        let line = numbered_value(self.alloc, number, value, page)?;
         self.line(&line)
     }
 
@@ -230,7 +243,11 @@ impl<'a, O: Write, E: Write> Page<'a, O, E> {
         if table_named(package, name).is_some() {
             return self.show_table(package, name);
         }
-        let _ = writeln!(self.err, "msidb: {}: no table {name}", self.path);
+        let _ = writeln!(
+            self.err,
+            "msidb: {}: no table {name}; `msidb list` tells the names",
+            self.path
+        );
         Ok(Shown::NoTable)
     }
 
@@ -324,8 +341,23 @@ fn facts_value(alloc: Global, package: &Package<ShownFile>, own: Own) -> Result<
     json!(in alloc; {"codepage": page, "kind": kind, "signed": signed, "sound": sound})
 }
 
-// A property with its number and name. A code page is a number without a sign.
-fn numbered_value(alloc: Global, number: u32, value: &PropertyValue) -> Result<Json, AllocError> {
+// What the code page is called that a property names, where it names one that is known.
+fn page_named(number: u32, value: &PropertyValue) -> Option<&'static str> {
+    match value {
+        PropertyValue::I2(page) if number == CODEPAGE => {
+            name_of_page(u32::from(page.cast_unsigned()))
+        }
+        _ => None,
+    }
+}
+
+// A property with its number and name, and what a code page is called, if that is given. A code page is a number without a sign.
+fn numbered_value(
+    alloc: Global,
+    number: u32,
+    value: &PropertyValue,
+    page: Option<&str>,
+) -> Result<Json, AllocError> {
     let value = match value {
         PropertyValue::I2(page) if number == CODEPAGE => Json::from(page.cast_unsigned()),
         _ => value_of_property(alloc, value)?,
@@ -335,7 +367,13 @@ fn numbered_value(alloc: Global, number: u32, value: &PropertyValue) -> Result<J
         None => Json::Null,
     };
     let number = Json::from(number);
-    json!(in alloc; {"name": name, "number": number, "value": value})
+    match page {
+        Some(page) => {
+            let page = text_value(alloc, page)?;
+            json!(in alloc; {"name": name, "number": number, "page": page, "value": value})
+        }
+        None => json!(in alloc; {"name": name, "number": number, "value": value}),
+    }
 }
 
 // The name and the columns of a table.

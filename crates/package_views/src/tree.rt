@@ -1,9 +1,10 @@
 //! The tree of any compound file, a line of JSON for each object.
-use crate::packages::{class_of, entries_at, text_of_json};
+use crate::json::text_of_json;
 use cfb::{Entries, Entry};
 use cfb_medium::Error;
 use msi_texts::decode;
 use package_files::{Names, Output};
+use package_reading::{class_of, entries_at};
 use serde_json::{Value as Json, json};
 use std::alloc::Global;
 use std::fs::File;

@@ -5,4 +5,4 @@ use Rattle.command_words.proofs.words.definition.Goals as goal
 
 pub returns : goal.returns
 returns c =
-    IfOk-weaker c.with.result _ _ (λ r h. h ∙ ap₂ joined c.in_ok-bare.ensures c.in_ok-put.ensures) (c.with.ensures (ap is_plain c.in_ok-put.ensures))
+    IfOk-weaker c.with.result _ _ (λ r h. h ∙ ap₂ joined c.in_ok-bare.ensures c.in_ok-build.ensures) (c.with.ensures (ap is_plain c.in_ok-build.ensures))

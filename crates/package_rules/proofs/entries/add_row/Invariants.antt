@@ -8,5 +8,5 @@ use Rattle.package_rules.proofs.entries.add_row.Given as goal
 -- the cells so far are in the set, behind those that were
 abbrev pub invariant-loop-at : goal.invariant-loop-at
 invariant-loop-at l =
-    (before : List Entry) → AreEntries before l.fn.set
-    → Given (λ k d. record { table = l.table; column = k + 1; cell = d } ∷ []) (map cell_of l.cells) l.at before (λ es. AreEntries es l.set)
+    (before : List Entry) → AreEntries l.asked before l.fn.set
+    → Given (λ k d. record { table = l.table; column = k + 1; cell = d } ∷ []) (map cell_of l.cells) l.at before (λ es. AreEntries l.asked es l.set)

@@ -7,5 +7,5 @@ use Rattle.package_rules.proofs.entries.entries_in.Goals as goal
 pub loop-table-preserved : goal.loop-table-preserved
 loop-table-preserved c =
     given_next (λ i t. entries_of_table t) c.tables-tables.result.now c.loop-table.table-index c.table-item.result []
-    (λ es. AreEntries es c.loop-table.set) (λ es. AreEntries es c.add_table.new.set) c.loop-table-test.true c.table-item.is
+    (λ es. AreEntries c.args.asked.now es c.loop-table.set) (λ es. AreEntries c.args.asked.now es c.add_table.new.set) c.loop-table-test.true c.table-item.is
     (λ all told. c.in_ok-add_table.ensures all told) c.loop-table.invariant

@@ -6,5 +6,5 @@ use Rattle.package_rules.proofs.foreign.lost_keys.Goals as goal
 pub returns : goal.returns
 returns c =
     IfOk-weaker c.places_where.result _ _
-    (λ r h. h ∙ found_all c.args.listing.now c.in_ok-said.said c.in_ok-entries.entries c.in_ok-said.ensures c.in_ok-entries.ensures)
+    (λ r h. h ∙ found_all c.args.listing.now c.in_ok-said.said c.in_ok-asked.asked c.in_ok-entries.entries c.in_ok-said.ensures c.in_ok-asked.ensures c.in_ok-entries.ensures)
     c.places_where.ensures

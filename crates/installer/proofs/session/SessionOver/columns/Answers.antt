@@ -2,7 +2,7 @@ use Rattle.std.proofs.Common.{ap, inl, inr, refl, sym, ◌∙◌}
 use Rattle.installer.proofs.Answering.{answers_memory, answers_refused, answers_told, cause_own, reads_err, reads_ok, refusal_own, rests_itself}
 use Rattle.cfb_medium.specs.declared.error.Error.TheVariants.{NotFound}
 use Rattle.command_file.specs.Request as asked
-use Rattle.installer.proofs.Columns.{columns_found, columns_lost}
+use Rattle.msi_copies.proofs.Columns.{columns_found, columns_lost}
 use Rattle.installer.specs.Reply as told
 use Rattle.installer.specs.Sessions.{package_in}
 use Rattle.msi_spec.specs.Calls.{found_table}

@@ -1,0 +1,2 @@
+-- Lemmas on what `_Validation` says.
+pub mod Stands

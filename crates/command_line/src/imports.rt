@@ -1,0 +1,75 @@
+//! Files of exported tables that give a package their rows.
+ghost use Rattle.std.specs.Prelude.{◌≤◌};
+
+use crate::commands::{Ending, Manner, run};
+use crate::progress::Progress;
+use cfb_medium::Error;
+use installer_runs::Until;
+use package_files::{Names, tell_failure};
+use package_imports::{Plan, plan_import, read_sources};
+use std::fs::File;
+use std::io::{self, Write};
+use std::rt::Files;
+use std::time::Clock;
+
+/// Gives tables of a package the rows of a file, or of those in a folder, in one commit; or nothing is changed. The files are read first. The
+/// status is 0 where it was done, 1 where a rule refused it, 2 where a file can't be read or is wrong, 3 for a fault or files that were
+/// refused; what went wrong is told.
+pub(crate) fn import<R: Files<File = File> + AllocGlobal + Clock + Clone + Drop, E: Write>(
+    rt: &R,
+    names: &Names,
+    path: &str,
+    err: &mut E,
+) -> u8
+    ensures { result ≤ 3 }
+{
+    let planned = match read_sources(rt, path, err) {
+        Ok(sources) => plan_import(rt, names, sources, err),
+        Err(status) => Err(status),
+    };
+    match planned {
+        Ok(plan) => run_plan(rt, names, &plan, err),
+        Err(status) => status.min(3),
+    }
+}
+
+// Runs commands to the first that is refused.
+fn run_plan<R: Files<File = File> + AllocGlobal + Clock, E: Write>(
+    rt: &R,
+    names: &Names,
+    plan: &Plan,
+    err: &mut E,
+) -> u8
+    ensures { result ≤ 3 }
+{
+    let manner = Manner {
+        until: Until::Refusal,
+        is_quiet: false,
+        is_own: true,
+    };
+    let commands = &plan.commands;
+    let mut progress = Progress::new(rt, err, false, commands.len());
+    let ended = run(rt, names, commands, manner, &mut io::sink(), &mut progress);
+    match ended {
+        Ok(Ending::Done) => 0,
+        Ok(Ending::Refused(error, place)) => {
+            tell_refused(names, plan, error, place, err);
+            1
+        }
+        Err(failure) => {
+            tell_failure(names, failure, err);
+            3
+        }
+    }
+}
+
+// Tells which file a rule refused.
+fn tell_refused<E: Write>(names: &Names, plan: &Plan, error: Error, place: usize, err: &mut E) {
+    let named = names.named();
+    let _ = match plan.origins.get(place) {
+        // (told with what makes it so)
+        _ if error == Error::InvalidData => Ok(()),
+        Some(path) => writeln!(err, "msidb: {path}: {named} is left as it was: {error}"),
+        None => writeln!(err, "msidb: {named} is left as it was: {error}"),
+    };
+}

@@ -1,0 +1,3 @@
+-- What is read of files of exported tables.
+pub mod ColumnsRead
+pub mod FilesRead

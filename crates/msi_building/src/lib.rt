@@ -1,0 +1,17 @@
+//! Packages of plain values, which say what the values say; and packages whose pool is written anew.
+#![tactic(auto)]
+
+mod alike;
+mod assembling;
+mod building;
+mod comparing;
+mod joining;
+mod once;
+mod said;
+mod system;
+mod twice;
+
+pub use building::built_package;
+pub use once::{has_texts_twice, with_texts_once};
+pub use said::{Said, SaidStream, SaidTable};
+pub use twice::texts_twice;
