@@ -130,11 +130,11 @@ class Files:
                 os.remove(f"{self.folder}/{name}")
         return ran.status, made
 
-    def run(self, commands, **settings):
+    def run(self, commands, *options, **settings):
         """A run of these commands, with the answers in place of what was printed."""
         with open(f"{self.folder}/commands.json", "w") as it:
             json.dump(commands, it)
-        ran = self.do("run", "commands.json", **settings)
+        ran = self.do("run", "commands.json", *options, **settings)
         return ran._replace(out=[json.loads(line) for line in ran.out.splitlines()])
 
 
