@@ -1,8 +1,9 @@
 //! Whether two packages say the same.
-use crate::comparing::{are_alike, values_of};
+use crate::same::{are_same_columns, are_same_names, are_same_rows};
 use cfb::{CompoundFile, Entry};
 use cfb_medium::{Error, MemoryMedium};
 use msi::Package;
+use msi_copies::{all_values, names_of_tables};
 use msi_query::Select;
 use msi_texts::decode;
 use msi_values::Value;
@@ -82,7 +83,7 @@ pub(crate) fn are_same_tables(
         return Ok(false);
     }
     let names = names_of(alloc, one)?;
-    if names != names_of(alloc, other)? {
+    if !are_same_names(&names, &names_of(alloc, other)?) {
         return Ok(false);
     }
     for name in &names {
@@ -94,11 +95,7 @@ pub(crate) fn are_same_tables(
 }
 
 fn names_of(alloc: Global, package: &Package<MemoryMedium>) -> Result<Vec<String>, Error> {
-    let mut names = Vec::new(alloc);
-    for name in package.tables()? {
-        names.push(name)?;
-    }
-    Ok(names)
+    names_of_tables(alloc, package.tables()?)
 }
 
 fn have_same_columns(
@@ -107,7 +104,7 @@ fn have_same_columns(
     name: &str,
 ) -> bool {
     match (one.get_table(name), other.get_table(name)) {
-        (Some(table), Some(found)) => are_alike(table.columns(), found.columns()),
+        (Some(table), Some(found)) => are_same_columns(table.columns(), found.columns()),
         _ => false,
     }
 }
@@ -120,7 +117,8 @@ fn have_same_rows(
     name: &str,
 ) -> Result<bool, Error> {
     let rows = sorted_rows(alloc, one, name)?;
-    Ok(rows == sorted_rows(alloc, other, name)?)
+    let others = sorted_rows(alloc, other, name)?;
+    Ok(are_same_rows(&rows, &others))
 }
 
 fn sorted_rows(
@@ -129,10 +127,7 @@ fn sorted_rows(
     name: &str,
 ) -> Result<Vec<Vec<Value>>, Error> {
     let select = Select::table(alloc, name)?;
-    let mut rows = Vec::new(alloc);
-    for row in package.select_rows(&select)? {
-        rows.push(values_of(alloc, &row)?)?;
-    }
+    let mut rows = all_values(alloc, package.select_rows(&select)?)?;
     rows.sort()?;
     Ok(rows)
 }

@@ -1,4 +1,10 @@
 //! A package that is built, judged and compared.
+ghost use Rattle.cfb.specs.Views.{file_case_table};
+ghost use Rattle.msi.specs.Opened.{file_in, sound_in, PackageHasContent};
+ghost use Rattle.msi_building.specs.Saying.{SaysPackage};
+ghost use Rattle.msi_spec.specs.Package.{PackageContent};
+ghost use Rattle.std.specs.Prelude.{IfOk, IsTrue};
+
 use crate::assembling::assembled;
 use crate::comparing::says;
 use crate::said::Said;
@@ -9,17 +15,26 @@ use std::alloc::Global;
 
 /// A sound package in memory that says this. What was put together is opened as any package, judged and compared: `InvalidData` where it isn't
 /// sound, or says anything else; `InvalidInput` or `Full` where there is too much of something.
-pub fn built_package(alloc: Global, said: &Said) -> Result<Package<MemoryMedium>, Error> {
+pub fn built_package(alloc: Global, said: &Said) -> Result<Package<MemoryMedium>, Error>
+    ensures { IfOk result (λ it. IsTrue (sound_in it) × (P : PackageContent)
+        × PackageHasContent it P × SaysPackage (file_case_table (file_in it)) P said.now) }
+{
     let medium = assembled(alloc, said)?;
     let mut package = opened(alloc, medium)?;
-    if !package.is_sound() || !says(alloc, &mut package, said)? {
+    if !package.is_sound() {
+        return Err(Error::InvalidData);
+    }
+    if !says(alloc, &mut package, said)? {
         return Err(Error::InvalidData);
     }
     Ok(package)
 }
 
-/// The package of these bytes.
-pub(crate) fn opened(alloc: Global, medium: MemoryMedium) -> Result<Package<MemoryMedium>, Error> {
+// A package of these bytes.
+pub(crate) fn opened(alloc: Global, medium: MemoryMedium) -> Result<Package<MemoryMedium>, Error>
+    ensures { IfOk result (λ it. IsTrue (sound_in it)
+        → (P : PackageContent) × PackageHasContent it P) }
+{
     let letters = CaseMapper::ascii(alloc)?;
     match Package::open(alloc, medium, letters) {
         Ok(package) => Ok(package),

@@ -5,9 +5,11 @@ mod alike;
 mod assembling;
 mod building;
 mod comparing;
+mod copies;
 mod joining;
 mod once;
 mod said;
+mod same;
 mod system;
 mod twice;
 

@@ -1,0 +1,11 @@
+use Rattle.std.proofs.Common.{◌∙◌, map, subst}
+use Rattle.std.proofs.lemmas.Result.{IfOk-weaker}
+use Rattle.std.specs.List.Sorted.{IsPermutation}
+use Rattle.std.specs.Prelude.{string_bytes}
+use Rattle.msi_building.specs.Saying.{said_streams}
+use Rattle.msi_building.proofs.comparing.has_stream_names.Goals as goal
+
+pub returns : goal.returns
+returns g c P h =
+    let told = c.in_ok-found.ensures.names ∙ c.in_ok-streams.ensures.answer P h in
+    IfOk-weaker c.are_names.result _ _ (λ b each same. subst (λ xs. IsPermutation xs (said_streams c.args.said.now)) told (subst (λ ys. IsPermutation (map string_bytes c.in_ok-found.found.items) ys) c.in_ok-wanted.ensures (each same))) c.are_names.ensures
