@@ -1,12 +1,13 @@
 //! Packages of plain values, which say what the values say; and packages whose pool is written anew.
 #![tactic(auto)]
 
-mod alike;
+mod agreeing;
 mod assembling;
 mod building;
 mod comparing;
 mod copies;
 mod joining;
+mod objects;
 mod once;
 mod said;
 mod same;

@@ -1,9 +1,16 @@
 //! A copy of a package in which each text stands at as few places of the pool as its uses need. Nothing is claimed of what writes it: what was
-//! made is opened, judged and compared before it is published.
-use crate::alike::{are_same_objects, are_same_tables};
+//! made is opened, judged and compared before it is answered.
+ghost use Rattle.cfb.specs.Views.{file_case_table};
+ghost use Rattle.msi.specs.Opened.{file_in, sound_in, PackageHasContent};
+ghost use Rattle.msi_building.specs.Agreeing.{Agree};
+ghost use Rattle.msi_spec.specs.Package.{PackageContent};
+ghost use Rattle.std.specs.Prelude.{◌≡◌, IfOk, IsTrue};
+
+use crate::agreeing::agree;
 use crate::assembling::{bytes_of_rows, put_stream_of_table};
 use crate::building::opened;
 use crate::joining::{Move, joined_pool, moved_rows};
+use crate::objects::{are_same_objects, objects_of};
 use crate::twice::texts_twice;
 use cfb::{CaseMapper, CompoundFile};
 use cfb_medium::{Error, MemoryMedium};
@@ -21,26 +28,57 @@ pub fn has_texts_twice(alloc: Global, medium: MemoryMedium) -> Result<(MemoryMed
     Ok((medium_of(file), is_twice))
 }
 
-/// A copy of a sound package in memory in which each text stands at as few places of the pool as its uses need, the least first. Its texts
-/// stand there in the order in which they first stood in the package; rows are stored in order. All else is as it was. What was written is
-/// opened as any package, judged and compared with the package: `InvalidData` where it isn't sound, says anything else, or such a text is
-/// left.
+/// A copy of a sound package in memory in which each text stands at as few places of the pool as its uses need, the least first. It is sound, and
+/// says what the package does: code page, tables with their columns and rows, summary, streams. Texts stand there in the order in which they
+/// first stood in the package; rows are stored in order. What was written is opened as any package, judged and compared: `InvalidData` where
+/// it isn't sound, says anything else, another object differs, or such a text is left. The package is flushed.
 pub fn with_texts_once(
     alloc: Global,
-    medium: MemoryMedium,
-) -> Result<Package<MemoryMedium>, Error> {
-    let mut file = container_in(alloc, medium)?;
-    let mut copy = container_in(alloc, copy_of(alloc, &mut file)?)?;
-    rewrite(alloc, &mut copy)?;
-    if is_twice_in(alloc, &mut copy)? || !are_same_objects(alloc, &mut file, &mut copy)? {
+    it: &mut Package<MemoryMedium>,
+) -> Result<Package<MemoryMedium>, Error>
+    ensures { (P : PackageContent) → PackageHasContent it.old P
+        → IsTrue (sound_in it.old)
+        → IfOk result (λ made. IsTrue (sound_in made) × (Q : PackageContent) × PackageHasContent made Q
+        × Agree (file_case_table (file_in it.old)) P (file_case_table (file_in made)) Q) }
+{
+    let written = rewritten(alloc, copy_of(alloc, it)?)?;
+    let mut made = opened(alloc, written)?;
+    if !made.is_sound() {
         return Err(Error::InvalidData);
     }
-    let mut package = opened(alloc, medium_of(file))?;
-    let mut made = opened(alloc, medium_of(copy))?;
-    if !is_sound(&made) || !are_same_tables(alloc, &mut package, &mut made)? {
+    if !agree(alloc, it, &mut made)? {
         return Err(Error::InvalidData);
     }
     Ok(made)
+}
+
+// The bytes of a package.
+fn copy_of(alloc: Global, it: &mut Package<MemoryMedium>) -> Result<MemoryMedium, Error>
+    ensures held { (P : PackageContent) → PackageHasContent it.old P
+        → IsTrue (sound_in it.old) → IfOk result (λ _. PackageHasContent it.new P) }
+    ensures letters { file_case_table (file_in it.new)
+        ≡ file_case_table (file_in it.old) }
+{
+    let mut copy = MemoryMedium::new(alloc);
+    it.copy_to(&mut copy)?;
+    Ok(copy)
+}
+
+// The bytes of a package in which pool and tables were written anew. `InvalidData` where another object isn't as it was, or a text stands at more
+// places than its uses need.
+fn rewritten(alloc: Global, medium: MemoryMedium) -> Result<MemoryMedium, Error> {
+    let mut file = container_in(alloc, medium)?;
+    rewrite_all(alloc, &mut file)?;
+    Ok(medium_of(file))
+}
+
+fn rewrite_all(alloc: Global, file: &mut CompoundFile<MemoryMedium>) -> Result<(), Error> {
+    let before = objects_of(alloc, file)?;
+    rewrite(alloc, file)?;
+    if is_twice_in(alloc, file)? || !are_same_objects(&before, &objects_of(alloc, file)?) {
+        return Err(Error::InvalidData);
+    }
+    Ok(())
 }
 
 fn container_in(alloc: Global, medium: MemoryMedium) -> Result<CompoundFile<MemoryMedium>, Error> {
@@ -51,12 +89,6 @@ fn container_in(alloc: Global, medium: MemoryMedium) -> Result<CompoundFile<Memo
     }
 }
 
-fn copy_of(alloc: Global, file: &mut CompoundFile<MemoryMedium>) -> Result<MemoryMedium, Error> {
-    let mut copy = MemoryMedium::new(alloc);
-    file.copy_to(&mut copy)?;
-    Ok(copy)
-}
-
 fn is_twice_in(alloc: Global, file: &mut CompoundFile<MemoryMedium>) -> Result<bool, Error> {
     let parts = parts_in(alloc, file)?;
     Ok(!texts_twice(alloc, &parts.pool)?.is_empty())
@@ -65,10 +97,6 @@ fn is_twice_in(alloc: Global, file: &mut CompoundFile<MemoryMedium>) -> Result<b
 // Functions of their own, since what is told of these calls costs time wherever it is seen.
 fn medium_of(file: CompoundFile<MemoryMedium>) -> MemoryMedium {
     file.into_inner()
-}
-
-fn is_sound(package: &Package<MemoryMedium>) -> bool {
-    package.is_sound()
 }
 
 fn parts_in(alloc: Global, file: &mut CompoundFile<MemoryMedium>) -> Result<PackageParts, Error> {

@@ -254,10 +254,11 @@ pub(crate) fn with_joined_texts(
     }
     let medium = bytes_of(adopted.package)?;
     let (medium, is_twice) = looked_for_twice(alloc, medium)?;
+    let package = package_in(alloc, medium)?;
     if is_twice {
-        joined_in(alloc, medium)
+        joined_of(alloc, package)
     } else {
-        package_in(alloc, medium)
+        Ok(package)
     }
 }
 
@@ -274,8 +275,11 @@ fn looked_for_twice(alloc: Global, medium: MemoryMedium) -> Result<(MemoryMedium
     has_texts_twice(alloc, medium)
 }
 
-fn joined_in(alloc: Global, medium: MemoryMedium) -> Result<Package<MemoryMedium>, Error> {
-    with_texts_once(alloc, medium)
+fn joined_of(
+    alloc: Global,
+    mut package: Package<MemoryMedium>,
+) -> Result<Package<MemoryMedium>, Error> {
+    with_texts_once(alloc, &mut package)
 }
 
 fn copy_of(alloc: Global, file: &mut CompoundFile<Shown>) -> Result<MemoryMedium, Error> {
