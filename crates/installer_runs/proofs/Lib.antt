@@ -9,3 +9,4 @@ pub mod Parting
 pub mod Refusing
 pub mod Slicing
 pub mod Whole
+pub mod Tallying

@@ -7,9 +7,11 @@ mod creating;
 mod listener;
 mod running;
 mod slices;
+mod tally;
 
 pub use adopting::adopt_in_place_on;
 pub use copying::copy_on;
 pub use creating::create_on;
 pub use listener::Listener;
 pub use running::{Ending, Until, run_on};
+pub use tally::{Tally, is_fault};
