@@ -1,6 +1,11 @@
 //! The run of commands on a package, and what is answered.
+ghost use Rattle.command_file.specs.RequestsOf.{request_of};
+ghost use Rattle.command_line.specs.Runs.{EndsAs, HasRun};
+ghost use Rattle.installer.specs.Reply.{Reply};
 ghost use Rattle.installer.specs.RepliesOf.{reply_of};
-ghost use Rattle.std.specs.Prelude.{⊤, [], map};
+ghost use Rattle.installer_runs.specs.Tallies.{HasHeard};
+ghost use Rattle.installer_runs.specs.declared.running.Ending.TheVariants as session;
+ghost use Rattle.std.specs.Prelude.{◌≡◌, ◌⊎◌, ◌++◌, [], IfOk, List, map};
 
 use crate::failures::failure_of;
 use crate::files;
@@ -10,7 +15,7 @@ use crate::sessions::run_commands;
 use cfb_medium::Error;
 use command_reasons::KnownTables;
 use installer::{Answer, Command, answer_text};
-use installer_runs::{Ending as Ended, Listener, Until};
+use installer_runs::{Ending as Ended, Listener, Tally, Until, is_fault};
 use package_checks::tell_twice;
 use package_files::{Failure, Faults, Found, Names, Trouble, cut_log, look_at_log};
 use package_reading::{is_signed_at, is_sound_at, why_refused};
@@ -42,7 +47,8 @@ pub(crate) struct Manner {
 }
 
 /// Runs commands on the package of two files, prints their answers, and shows how far it has come. The log is made by the first commit.
-/// One into which this run wrote is cut to a byte at its end.
+/// One into which this run wrote is cut to a byte at its end. That all is done is told only where a session answered each command, and
+/// refused none.
 pub(crate) fn run<R: Files<File = File> + AllocGlobal + Clock, O: Write, E: Write>(
     rt: &R,
     names: &Names,
@@ -50,7 +56,9 @@ pub(crate) fn run<R: Files<File = File> + AllocGlobal + Clock, O: Write, E: Writ
     manner: Manner,
     out: &mut O,
     progress: &mut Progress<'_, R, E>,
-) -> Result<Ending, Failure> {
+) -> Result<Ending, Failure>
+    ensures { IfOk result (HasRun (map request_of commands.now)) }
+{
     let found = files::look_to_commit(rt, names)?;
     let mut known = known_before(rt, names, manner);
     let faults = Faults::new();
@@ -63,17 +71,16 @@ pub(crate) fn run<R: Files<File = File> + AllocGlobal + Clock, O: Write, E: Writ
         out,
         progress,
     );
-    let ended = run_commands(rt.alloc(), device, commands, manner.until, &mut answers);
-    match ended {
-        Ok(Ended::Whole | Ended::Stopped) => {}
+    let ended = match run_commands(rt.alloc(), device, commands, manner.until, &mut answers) {
         Ok(Ended::Unopened(error)) => return Err(why_no_session(rt, names, error)),
-        Ok(Ended::Cut) | Err(_) => answers.meet(Failure::Memory),
-    }
+        Ok(ended) => ended,
+        Err(_) => return Err(Failure::Memory),
+    };
     if found == Found::Open || has_commit(commands) {
         cut_log(rt, names);
     }
-    let (ending, heard, done) = (answers.ending(), answers.heard, answers.done);
-    if ended == Ok(Ended::Stopped) && !manner.is_own {
+    let (ending, heard, done) = (answers.ending(ended), answers.heard, answers.done);
+    if ended == Ended::Stopped && !manner.is_own {
         tell_stopped(names, done, commands.len(), progress.err());
     }
     if !manner.is_quiet {
@@ -244,28 +251,23 @@ struct Answers<'a, 'b, O, R, E> {
     heard: Heard,
     out: &'a mut O,
     progress: &'a mut Progress<'b, R, E>,
-    // Why the first command that a rule refused was, and how many stand before it.
-    refusal: Option<(Error, usize)>,
-    // The first failure.
-    failure: Option<Failure>,
-    // An answer couldn't be printed, so none is printed any more.
-    is_cut: bool,
+    // The first refusal, and the first fault.
+    tally: Tally,
+    // How many answers stand before the first refusal by a rule.
+    before_refusal: Option<usize>,
+    // Why an answer couldn't be printed: then none is printed any more.
+    unprinted: Option<Failure>,
 }
 
 impl<'a, 'b, O: Write, R: Clock, E: Write> Listener for Answers<'a, 'b, O, R, E> {
-    // No clause says what is printed.
-    ghost hears = { λ _ _ _. ⊤ };
+    // What was heard is known. No clause says what is printed.
+    ghost hears = { λ old replies new. (before : List Reply) → HasHeard old.tally before → HasHeard new.tally (before ++ replies) };
 
     // Prints the answers of a slice.
     fn hear(&mut self, answers: &[Answer]) {
+        self.tally.hear(answers);
         for answer in answers {
-            if let Some(command) = self.commands.get(self.done) {
-                self.heard.note(command, answer);
-                self.explain(command, answer);
-            }
-            self.note(answer);
-            self.done = self.done.saturating_add(1);
-            self.print(answer);
+            self.tell(answer);
         }
         self.progress.step(answers.len());
     }
@@ -302,7 +304,9 @@ impl<'a, 'b, O: Write, R: Clock, E: Write> Answers<'a, 'b, O, R, E> {
         known: &'a mut Option<KnownTables>,
         out: &'a mut O,
         progress: &'a mut Progress<'b, R, E>,
-    ) -> Self {
+    ) -> Self
+        ensures { HasHeard result.tally [] }
+    {
         Answers {
             alloc,
             named,
@@ -312,14 +316,31 @@ impl<'a, 'b, O: Write, R: Clock, E: Write> Answers<'a, 'b, O, R, E> {
             heard: Heard::default(),
             out,
             progress,
-            refusal: None,
-            failure: None,
-            is_cut: false,
+            tally: Tally::new(),
+            before_refusal: None,
+            unprinted: None,
         }
     }
 
+    // Tells an answer, and why a rule refused its command.
+    fn tell(&mut self, answer: &Answer)
+        ensures { self.new.tally ≡ self.old.tally }
+    {
+        if let Some(command) = self.commands.get(self.done) {
+            self.heard.note(command, answer);
+            self.explain(command, answer);
+        }
+        if self.before_refusal.is_none() && is_by_rule(answer) {
+            self.before_refusal = Some(self.done);
+        }
+        self.done = self.done.saturating_add(1);
+        self.print(answer);
+    }
+
     // Tells why a rule refused a command, or takes in what it has made of the tables.
-    fn explain(&mut self, command: &Command, answer: &Answer) {
+    fn explain(&mut self, command: &Command, answer: &Answer)
+        ensures { self.new.tally ≡ self.old.tally }
+    {
         let Some(known) = &mut *self.known else {
             return;
         };
@@ -338,51 +359,42 @@ impl<'a, 'b, O: Write, R: Clock, E: Write> Answers<'a, 'b, O, R, E> {
         }
     }
 
-    // Notes whether an answer is a refusal or a fault.
-    fn note(&mut self, answer: &Answer) {
-        match answer {
-            Answer::Refused(error) if is_fault(*error) => self.meet(failure_of(*error)),
-            Answer::Refused(error) if self.refusal.is_none() => {
-                self.refusal = Some((*error, self.done));
-            }
-            _ => {}
-        }
-    }
-
-    // Notes a failure, if it is the first.
-    fn meet(&mut self, failure: Failure) {
-        if self.failure.is_none() {
-            self.failure = Some(failure);
-        }
-    }
-
     // Prints an answer, unless an earlier one couldn't be printed.
-    fn print(&mut self, answer: &Answer) {
-        if self.is_cut {
-            return;
-        }
-        if let Err(failure) = print_line(self.alloc, self.out, answer) {
-            self.is_cut = true;
-            self.meet(failure);
+    fn print(&mut self, answer: &Answer)
+        ensures { self.new.tally ≡ self.old.tally }
+    {
+        if self.unprinted.is_none() {
+            self.unprinted = print_line(self.alloc, self.out, answer).err();
         }
     }
 
-    // A failure comes before a refusal.
-    fn ending(&self) -> Result<Ending, Failure> {
-        match (self.failure, self.refusal) {
-            (Some(failure), _) => Err(failure),
-            (None, Some((error, place))) => Ok(Ending::Refused(error, place)),
-            (None, None) => Ok(Ending::Done),
+    // How a run ended: a fault comes before answers that couldn't be printed, and these before a refusal.
+    fn ending(&self, ended: Ended) -> Result<Ending, Failure>
+        ensures heard { (replies : List Reply) → HasHeard self.now.tally replies
+            → IfOk result (λ ending. EndsAs ending replies) }
+        ensures whole { IfOk result (λ ending.
+            (ended ≡ session.Whole) ⊎ (ended ≡ session.Stopped)) }
+    {
+        if let Some(error) = self.tally.fault() {
+            return Err(failure_of(error));
+        }
+        match ended {
+            Ended::Whole | Ended::Stopped => {}
+            Ended::Unopened(_) | Ended::Cut => return Err(Failure::Memory),
+        }
+        if let Some(failure) = self.unprinted {
+            return Err(failure);
+        }
+        match self.tally.refusal() {
+            Some(error) => Ok(Ending::Refused(error, self.before_refusal.unwrap_or(0))),
+            None => Ok(Ending::Done),
         }
     }
 }
 
-// Whether it is a fault, and no refusal by a rule.
-fn is_fault(error: Error) -> bool {
-    matches!(
-        error,
-        Error::Full | Error::Memory | Error::Device | Error::Failed
-    )
+// Whether a rule refused a command.
+fn is_by_rule(answer: &Answer) -> bool {
+    matches!(answer, Answer::Refused(error) if !is_fault(*error))
 }
 
 /// Prints an answer on a line of its own.

@@ -1,6 +1,10 @@
 //! Words that change one thing of a package: a property, a field of the summary, or a stream. What they do is a run of commands, committed
 //! at its end.
-ghost use Rattle.std.specs.Prelude.{◌≤◌};
+ghost use Rattle.command_file.specs.Request as asked;
+ghost use Rattle.command_file.specs.RequestsOf.{request_of};
+ghost use Rattle.command_line.specs.Runs.{HasRun};
+ghost use Rattle.command_line.specs.declared.commands.Ending.TheVariants.{Done};
+ghost use Rattle.std.specs.Prelude.{◌≡◌, ◌≤◌, ◌∷◌, ℕ, [], IfErr, IfOk, List, map};
 
 use crate::commands::{Ending, Manner, quoted, run};
 use crate::progress::Progress;
@@ -14,6 +18,7 @@ use package_files::{
 };
 use package_views::{NameFault, is_stream_name, lacks_property, name_fault};
 use std::alloc::{AllocError, Global};
+use std::collections::BTreeSet;
 use std::fs::{self, File};
 use std::io::{self, Write};
 use std::rt::Files;
@@ -28,27 +33,104 @@ pub(crate) struct Property<'a> {
     pub is_field: bool,
 }
 
-/// Gives a property a value, and commits; or nothing is changed. The status is 0 where it was done, 1 where a rule refused it, 3 for a
+/// Properties, each with its value: rows of the table `Property`, or fields of the summary.
+#[derive(Clone, Copy, Debug)]
+pub(crate) struct Properties<'a> {
+    /// Their names and values, each name once.
+    pub pairs: &'a [(&'a str, &'a str)],
+    /// Whether they are fields of the summary.
+    pub are_fields: bool,
+}
+
+/// Names with their values: the first, and those behind it in turn. Where a name has no value or stands twice, that is told, and the status is
+/// given: 2, or 3 for want of memory.
+pub(crate) fn pairs_of<'a, E: Write>(
+    alloc: Global,
+    first: (&'a str, &'a str),
+    more: &[&'a str],
+    err: &mut E,
+) -> Result<Vec<(&'a str, &'a str)>, u8>
+    ensures { IfErr result (λ status. status ≤ 3) }
+{
+    match paired(alloc, first, more) {
+        Ok(pairs) => match second_of(alloc, &pairs) {
+            Ok(None) => Ok(pairs),
+            Ok(Some(name)) => Err(tell_name(name, "it is named twice", err)),
+            Err(_) => Err(out_of_memory(err)),
+        },
+        Err(Some(name)) => Err(tell_name(
+            name,
+            "it has no value; each NAME is followed by its VALUE",
+            err,
+        )),
+        Err(None) => Err(out_of_memory(err)),
+    }
+}
+
+// Names and values by pairs; or the name that has no value, or none for want of memory.
+fn paired<'a>(
+    alloc: Global,
+    first: (&'a str, &'a str),
+    more: &[&'a str],
+) -> Result<Vec<(&'a str, &'a str)>, Option<&'a str>> {
+    let mut pairs = Vec::new(alloc);
+    if pairs.push(first).is_err() {
+        return Err(None);
+    }
+    let mut rest = more.iter();
+    while let Some(name) = rest.next() {
+        let Some(value) = rest.next() else {
+            return Err(Some(*name));
+        };
+        if pairs.push((*name, *value)).is_err() {
+            return Err(None);
+        }
+    }
+    Ok(pairs)
+}
+
+// The first name that stood before.
+fn second_of<'a>(
+    alloc: Global,
+    pairs: &[(&'a str, &'a str)],
+) -> Result<Option<&'a str>, AllocError> {
+    let mut seen = BTreeSet::new(alloc);
+    for (name, _) in pairs {
+        if !seen.insert(String::from_str(alloc, name)?)? {
+            return Ok(Some(*name));
+        }
+    }
+    Ok(None)
+}
+
+// Tells what is wrong with a name among the words.
+fn tell_name<E: Write>(name: &str, what: &str, err: &mut E) -> u8
+    ensures { result ≤ 3 }
+{
+    let _ = writeln!(err, "msidb: {name}: {what}");
+    2
+}
+
+/// Gives properties their values, and commits; or nothing is changed. The status is 0 where it was done, 1 where a rule refused one, 3 for a
 /// fault or files that were refused; what went wrong is told.
-pub(crate) fn set_property<R: Files<File = File> + AllocGlobal + Clock, E: Write>(
+pub(crate) fn set_properties<R: Files<File = File> + AllocGlobal + Clock, E: Write>(
     rt: &R,
     names: &Names,
-    property: Property<'_>,
-    value: &str,
+    properties: Properties<'_>,
     err: &mut E,
 ) -> u8
     ensures { result ≤ 3 }
 {
-    if value.is_empty() || property.name.is_empty() {
-        tell_empty(names.named(), property.name, err);
-        return 1;
+    for (name, value) in properties.pairs {
+        if value.is_empty() || name.is_empty() {
+            tell_empty(names.named(), name, err);
+            return 1;
+        }
     }
-    let text = if property.is_field {
-        text_of_field(rt.alloc(), property.name, value)
-    } else {
-        text_of_property(rt.alloc(), property.name, value)
-    };
-    run_text(rt, names, property, Some(value), text, err)
+    match commands_of_pairs(rt.alloc(), names.named(), properties, err) {
+        Ok(commands) => run_own(rt, names, &commands, Change::Properties(properties), err),
+        Err(status) => status,
+    }
 }
 
 // Tells that a name or a value is empty.
@@ -66,6 +148,69 @@ fn tell_empty<E: Write>(named: &str, name: &str, err: &mut E) {
     };
 }
 
+// The commands that give properties their values, and a commit. Where a field or its value is wrong that is told, and the status is given.
+fn commands_of_pairs<E: Write>(
+    alloc: Global,
+    named: &str,
+    properties: Properties<'_>,
+    err: &mut E,
+) -> Result<Vec<Command>, u8>
+    ensures { IfErr result (λ status. status ≤ 3) }
+{
+    let mut commands = Vec::new(alloc);
+    for (name, value) in properties.pairs {
+        match add_pair(alloc, &mut commands, name, value, properties.are_fields) {
+            Ok(()) => {}
+            Err(error) => return Err(tell_unmade(named, name, Some(value), error, err)),
+        }
+    }
+    match commands.push(Command::Commit) {
+        Ok(()) => Ok(commands),
+        Err(_) => Err(out_of_memory(err)),
+    }
+}
+
+// Adds the commands that give a property its value.
+fn add_pair(
+    alloc: Global,
+    commands: &mut Vec<Command>,
+    name: &str,
+    value: &str,
+    is_field: bool,
+) -> Result<(), Error> {
+    let text = if is_field {
+        text_of_field(alloc, name, value)?
+    } else {
+        text_of_property(alloc, name, value)?
+    };
+    add_commands(alloc, commands, &text)
+}
+
+// Adds the commands of a text that this program wrote.
+fn add_commands(alloc: Global, commands: &mut Vec<Command>, text: &str) -> Result<(), Error> {
+    for command in commands_of(alloc, text)? {
+        commands.push(command)?;
+    }
+    Ok(())
+}
+
+// Tells why no commands were made of a name and its value, or of a name that is to be taken away, and gives the status.
+fn tell_unmade<E: Write>(
+    named: &str,
+    name: &str,
+    value: Option<&str>,
+    error: Error,
+    err: &mut E,
+) -> u8
+    ensures { result ≤ 3 }
+{
+    if error == Error::Memory {
+        return out_of_memory(err);
+    }
+    tell_wrong_field(named, name, value, err);
+    1
+}
+
 /// Takes a property away, and commits; or nothing is changed. The status is 0 where it was done, 1 where there is none, or a rule refused
 /// it, 3 for a fault or files that were refused; what went wrong is told.
 pub(crate) fn unset_property<R: Files<File = File> + AllocGlobal + Clock, E: Write>(
@@ -80,16 +225,26 @@ pub(crate) fn unset_property<R: Files<File = File> + AllocGlobal + Clock, E: Wri
     if lacks_property(rt, names, property.name, property.is_field, err) {
         return 1;
     }
-    let text = if property.is_field {
-        text_of_cleared(rt.alloc(), property.name)
-    } else {
-        text_of_removal(rt.alloc(), property.name)
-    };
-    run_text(rt, names, property, None, text, err)
+    match commands_of_removal(rt.alloc(), property) {
+        Ok(commands) => run_own(rt, names, &commands, Change::Removal(property), err),
+        Err(error) => tell_unmade(names.named(), property.name, None, error, err),
+    }
 }
 
-/// Puts the bytes of a file into a stream, and commits; or nothing is changed. The status is 0 where it was done, 1 where a rule refused it, 3
-/// for a fault, a file that can't be read, or files that were refused; what went wrong is told.
+// The commands that take a property away, and a commit.
+fn commands_of_removal(alloc: Global, property: Property<'_>) -> Result<Vec<Command>, Error> {
+    let text = if property.is_field {
+        text_of_cleared(alloc, property.name)?
+    } else {
+        text_of_removal(alloc, property.name)?
+    };
+    let mut commands = commands_of(alloc, &text)?;
+    commands.push(Command::Commit)?;
+    Ok(commands)
+}
+
+/// Puts the bytes of a file into a stream, and commits; or nothing is changed. The status is 0 where a session did both, 1 where a rule refused
+/// it, 3 for a fault, a file that can't be read, or files that were refused; what went wrong is told.
 pub(crate) fn put_stream<R: Files<File = File> + AllocGlobal + Clock, E: Write>(
     rt: &R,
     names: &Names,
@@ -97,7 +252,9 @@ pub(crate) fn put_stream<R: Files<File = File> + AllocGlobal + Clock, E: Write>(
     path: &str,
     err: &mut E,
 ) -> u8
-    ensures { result ≤ 3 }
+    ensures most { result ≤ 3 }
+    ensures done { result ≡ 0 → (bytes : List ℕ)
+        × HasRun (asked.write_stream stream.now bytes ∷ asked.commit ∷ []) Done }
 {
     let bytes = match bytes_in(rt, path, err) {
         Some(bytes) => bytes,
@@ -136,11 +293,11 @@ fn bytes_in<R: Files<File = File> + AllocGlobal, E: Write>(
     }
 }
 
-fn commands_of_put(
-    alloc: Global,
-    stream: &str,
-    bytes: Vec<u8>,
-) -> Result<Vec<Command>, AllocError> {
+// The commands that put bytes into a stream, and commit.
+fn commands_of_put(alloc: Global, stream: &str, bytes: Vec<u8>) -> Result<Vec<Command>, AllocError>
+    ensures { IfOk result (λ commands. map request_of commands.items
+        ≡ asked.write_stream stream.now bytes.items ∷ asked.commit ∷ []) }
+{
     let mut commands = Vec::new(alloc);
     commands.push(Command::WriteStream(String::from_str(alloc, stream)?, bytes))?;
     commands.push(Command::Commit)?;
@@ -150,33 +307,9 @@ fn commands_of_put(
 // What a word changes.
 #[derive(Clone, Copy, Debug)]
 enum Change<'a> {
-    Property(Property<'a>),
+    Properties(Properties<'a>),
+    Removal(Property<'a>),
     Stream(&'a str),
-}
-
-// Runs the commands of a text that this program wrote, which gives a property a value or takes it away. Where it holds none, the field or
-// its value is wrong.
-fn run_text<R: Files<File = File> + AllocGlobal + Clock, E: Write>(
-    rt: &R,
-    names: &Names,
-    property: Property<'_>,
-    value: Option<&str>,
-    text: Result<String, AllocError>,
-    err: &mut E,
-) -> u8
-    ensures { result ≤ 3 }
-{
-    let Ok(text) = text else {
-        return out_of_memory(err);
-    };
-    match commands_of(rt.alloc(), &text) {
-        Ok(commands) => run_own(rt, names, &commands, Change::Property(property), err),
-        Err(Error::Memory) => out_of_memory(err),
-        Err(_) => {
-            tell_wrong_field(names.named(), property.name, value, err);
-            1
-        }
-    }
 }
 
 // Tells that no summary has a field, or what the field takes in place of a value.
@@ -209,13 +342,14 @@ fn wanted_of(field: &str) -> Option<&'static str> {
 }
 
 fn out_of_memory<E: Write>(err: &mut E) -> u8
-    ensures { result ≤ 3 }
+    ensures most { result ≤ 3 }
+    ensures fault { result ≡ 3 }
 {
     tell("out of memory", err);
     3
 }
 
-// Runs commands of this program's own, up to the first that is refused, and tells of what.
+// Runs commands of this program's own, up to the first that is refused, and tells of what. The status is 0 only where a session ran them all.
 fn run_own<R: Files<File = File> + AllocGlobal + Clock, E: Write>(
     rt: &R,
     names: &Names,
@@ -223,7 +357,8 @@ fn run_own<R: Files<File = File> + AllocGlobal + Clock, E: Write>(
     change: Change<'_>,
     err: &mut E,
 ) -> u8
-    ensures { result ≤ 3 }
+    ensures most { result ≤ 3 }
+    ensures done { result ≡ 0 → HasRun (map request_of commands.now) Done }
 {
     let manner = Manner {
         until: Until::Refusal,
@@ -234,8 +369,8 @@ fn run_own<R: Files<File = File> + AllocGlobal + Clock, E: Write>(
     let ended = run(rt, names, commands, manner, &mut io::sink(), &mut progress);
     match ended {
         Ok(Ending::Done) => 0,
-        Ok(Ending::Refused(error, _)) => {
-            tell_refused(rt, names, change, error, err);
+        Ok(Ending::Refused(error, place)) => {
+            tell_refused(rt, names, change, error, place, err);
             1
         }
         Err(failure) => {
@@ -249,12 +384,13 @@ fn tell_over<E: Write>(names: &Names, failure: Failure, err: &mut E) {
     tell_failure(names, failure, err);
 }
 
-// Tells which rule refused a change.
+// Tells which rule refused a change, by a command behind so many.
 fn tell_refused<R: Files<File = File> + AllocGlobal, E: Write>(
     rt: &R,
     names: &Names,
     change: Change<'_>,
     error: Error,
+    place: usize,
     err: &mut E,
 ) {
     let named = names.named();
@@ -263,15 +399,38 @@ fn tell_refused<R: Files<File = File> + AllocGlobal, E: Write>(
         (Error::InvalidData, _) => {}
         (Error::NotFound, _) => tell_no_table(named, err),
         (_, Change::Stream(name)) => tell_refused_stream(named, name, error, err),
-        (_, Change::Property(property)) => {
-            let fault = if property.is_field {
-                None
-            } else {
-                name_fault(rt, names, property.name)
-            };
-            tell_refused_property(named, property.name, fault, err);
-        }
+        (_, Change::Removal(property)) => tell_refused_property(rt, names, property, err),
+        (_, Change::Properties(properties)) => match property_at(properties, place) {
+            Some(property) => tell_refused_property(rt, names, property, err),
+            None => tell_none_set(named, err),
+        },
     }
+}
+
+// The property that the command behind so many is for; of several none is that of the commit.
+fn property_at(properties: Properties<'_>, place: usize) -> Option<Property<'_>> {
+    let each = if properties.are_fields {
+        1
+    } else {
+        COMMANDS_OF_PROPERTY
+    };
+    let at = if properties.pairs.len() == 1 {
+        0
+    } else {
+        place / each
+    };
+    let (name, _) = properties.pairs.get(at)?;
+    Some(Property {
+        name: *name,
+        is_field: properties.are_fields,
+    })
+}
+
+fn tell_none_set<E: Write>(named: &str, err: &mut E) {
+    let _ = writeln!(
+        err,
+        "msidb: {named}: no property is set: a value is refused"
+    );
 }
 
 fn tell_no_table<E: Write>(named: &str, err: &mut E) {
@@ -295,7 +454,19 @@ fn tell_refused_stream<E: Write>(named: &str, name: &str, error: Error, err: &mu
     };
 }
 
-fn tell_refused_property<E: Write>(named: &str, name: &str, fault: Option<NameFault>, err: &mut E) {
+// Tells that a property isn't set, and what is wrong with its name, if it is that.
+fn tell_refused_property<R: Files<File = File> + AllocGlobal, E: Write>(
+    rt: &R,
+    names: &Names,
+    property: Property<'_>,
+    err: &mut E,
+) {
+    let (named, name) = (names.named(), property.name);
+    let fault = if property.is_field {
+        None
+    } else {
+        name_fault(rt, names, name)
+    };
     let _ = match fault {
         Some(NameFault::TooLong(most)) => writeln!(
             err,
@@ -312,56 +483,74 @@ fn tell_refused_property<E: Write>(named: &str, name: &str, fault: Option<NameFa
     };
 }
 
+// How many commands a row of a property takes.
+const COMMANDS_OF_PROPERTY: usize = 2;
+
 // A row in place of one that may be there.
 fn text_of_property(alloc: Global, name: &str, value: &str) -> Result<String, AllocError> {
     let (name, value) = (quoted(alloc, name)?, quoted(alloc, value)?);
     format!(in alloc;
-        r#"[{{"op":"delete","table":"Property","where":{{"op":"eq","args":[{{"col":"Property"}},{name}]}}}},{{"op":"insert","table":"Property","rows":[[{name},{value}]]}},{{"op":"commit"}}]"#
+        r#"[{{"op":"delete","table":"Property","where":{{"op":"eq","args":[{{"col":"Property"}},{name}]}}}},{{"op":"insert","table":"Property","rows":[[{name},{value}]]}}]"#
     )
 }
 
 fn text_of_removal(alloc: Global, name: &str) -> Result<String, AllocError> {
     let name = quoted(alloc, name)?;
     format!(in alloc;
-        r#"[{{"op":"delete","table":"Property","where":{{"op":"eq","args":[{{"col":"Property"}},{name}]}}}},{{"op":"commit"}}]"#
+        r#"[{{"op":"delete","table":"Property","where":{{"op":"eq","args":[{{"col":"Property"}},{name}]}}}}]"#
     )
 }
 
 fn text_of_field(alloc: Global, name: &str, value: &str) -> Result<String, AllocError> {
     let (field, value) = (quoted(alloc, name)?, json_of_field(alloc, name, value)?);
-    format!(in alloc;
-        r#"[{{"op":"set_summary","field":{field},"value":{value}}},{{"op":"commit"}}]"#
-    )
+    format!(in alloc; r#"[{{"op":"set_summary","field":{field},"value":{value}}}]"#)
 }
 
 fn text_of_cleared(alloc: Global, name: &str) -> Result<String, AllocError> {
     let field = quoted(alloc, name)?;
-    format!(in alloc; r#"[{{"op":"set_summary","field":{field},"value":null}},{{"op":"commit"}}]"#)
+    format!(in alloc; r#"[{{"op":"set_summary","field":{field},"value":null}}]"#)
 }
 
 // The value of a field in JSON: numbers as they stand, a moment by its tenths of a microsecond, several texts or numbers as a list.
 fn json_of_field(alloc: Global, name: &str, value: &str) -> Result<String, AllocError> {
     match name {
         "codepage" | "page_count" | "word_count" | "character_count" | "doc_security" => {
-            String::from_str(alloc, value)
+            number_of(alloc, value)
         }
         "last_printed" | "creation_time" | "last_saved_time" => match moment_in(value) {
             Some(units) => format!(in alloc; "{units}"),
-            None => String::from_str(alloc, value),
+            None => number_of(alloc, value),
         },
-        "languages" => format!(in alloc; "[{value}]"),
-        "keywords" => list_of(alloc, value),
+        "languages" => list_of(alloc, value, true),
+        "keywords" => list_of(alloc, value, false),
         _ => quoted(alloc, value),
     }
 }
 
-fn list_of(alloc: Global, value: &str) -> Result<String, AllocError> {
+// A number as it stands; what is none is a text, which no field of a number takes.
+fn number_of(alloc: Global, value: &str) -> Result<String, AllocError> {
+    let digits = value.strip_prefix('-').unwrap_or(value);
+    if !digits.is_empty() && digits.bytes().all(|byte| byte.is_ascii_digit()) {
+        String::from_str(alloc, value)
+    } else {
+        quoted(alloc, value)
+    }
+}
+
+// The words between commas.
+fn list_of(alloc: Global, value: &str, are_numbers: bool) -> Result<String, AllocError> {
     let mut list = String::from_str(alloc, "[")?;
     for word in value.split(',') {
         if list.len() > 1 {
             list.push(',')?;
         }
-        list.push_str(&quoted(alloc, word.trim())?)?;
+        let word = word.trim();
+        let item = if are_numbers {
+            number_of(alloc, word)?
+        } else {
+            quoted(alloc, word)?
+        };
+        list.push_str(&item)?;
     }
     list.push(']')?;
     Ok(list)

@@ -1,5 +1,8 @@
 //! Files of exported tables that give a package their rows.
-ghost use Rattle.std.specs.Prelude.{◌≤◌};
+ghost use Rattle.command_file.specs.RequestsOf.{request_of};
+ghost use Rattle.command_line.specs.Runs.{HasRun};
+ghost use Rattle.command_line.specs.declared.commands.Ending.TheVariants.{Done};
+ghost use Rattle.std.specs.Prelude.{◌≡◌, ◌≤◌, map};
 
 use crate::commands::{Ending, Manner, run};
 use crate::progress::Progress;
@@ -12,18 +15,18 @@ use std::io::{self, Write};
 use std::rt::Files;
 use std::time::Clock;
 
-/// Gives tables of a package the rows of a file, or of those in a folder, in one commit; or nothing is changed. The files are read first. The
+/// Gives tables of a package the rows of files, or of those in folders, in one commit; or nothing is changed. The files are read first. The
 /// status is 0 where it was done, 1 where a rule refused it, 2 where a file can't be read or is wrong, 3 for a fault or files that were
 /// refused; what went wrong is told.
 pub(crate) fn import<R: Files<File = File> + AllocGlobal + Clock + Clone + Drop, E: Write>(
     rt: &R,
     names: &Names,
-    path: &str,
+    paths: &[&str],
     err: &mut E,
 ) -> u8
     ensures { result ≤ 3 }
 {
-    let planned = match read_sources(rt, path, err) {
+    let planned = match read_sources(rt, paths, err) {
         Ok(sources) => plan_import(rt, names, sources, err),
         Err(status) => Err(status),
     };
@@ -33,14 +36,15 @@ pub(crate) fn import<R: Files<File = File> + AllocGlobal + Clock + Clone + Drop,
     }
 }
 
-// Runs commands to the first that is refused.
+// Runs commands to the first that is refused. The status is 0 only where a session ran them all.
 fn run_plan<R: Files<File = File> + AllocGlobal + Clock, E: Write>(
     rt: &R,
     names: &Names,
     plan: &Plan,
     err: &mut E,
 ) -> u8
-    ensures { result ≤ 3 }
+    ensures most { result ≤ 3 }
+    ensures done { result ≡ 0 → HasRun (map request_of plan.now.commands.items) Done }
 {
     let manner = Manner {
         until: Until::Refusal,

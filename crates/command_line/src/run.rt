@@ -1,10 +1,14 @@
 //! What the program does with its words.
-ghost use Rattle.std.specs.Prelude.{◌≤◌, IfErr};
+ghost use Rattle.command_file.specs.Request.{Request};
+ghost use Rattle.command_file.specs.RequestsOf.{request_of};
+ghost use Rattle.command_line.specs.Runs.{HasRun, status_in};
+ghost use Rattle.command_line.specs.declared.commands.Ending.TheVariants.{Done};
+ghost use Rattle.std.specs.Prelude.{◌≡◌, ◌≤◌, IfErr, List, map};
 
 use crate::adoption::adopt_there;
 use crate::builds::built_of;
 use crate::commands::{Ending, Manner, run};
-use crate::edits::{Property, put_stream, set_property, unset_property};
+use crate::edits::{Properties, Property, pairs_of, put_stream, set_properties, unset_property};
 use crate::failures::failure_of;
 use crate::files;
 use crate::imports::import;
@@ -28,7 +32,7 @@ use package_files::{
 };
 use package_reading::pages_of;
 use package_validation::{Ignored, Validation, ignored_in, validate_package};
-use package_views::{export_package, extract_stream, get_property, show_package};
+use package_views::{Form, export_package, extract_stream, get_property, show_package};
 use staged::Recovered;
 use std::alloc::Global;
 use std::fs::File;
@@ -110,9 +114,17 @@ fn carry_out<R: Files<File = File> + AllocGlobal + Clock + Clone + Drop, O: Writ
             let look = Look::Get(name, is_field);
             look_at(rt, look, path, log, pages, out, err)
         }
-        Line::Set(package, log, name, value, is_field) => {
-            let word = Word::Set(Property { name, is_field }, value);
-            on_files(rt, word, package, log, out, err)
+        Line::Set(package, log, name, value, more, are_fields) => {
+            match pairs_of(rt.alloc(), (name, value), &more, err) {
+                Ok(pairs) => {
+                    let properties = Properties {
+                        pairs: &pairs,
+                        are_fields,
+                    };
+                    on_files(rt, Word::Set(properties), package, log, out, err)
+                }
+                Err(status) => status,
+            }
         }
         Line::Unset(package, log, name, is_field) => {
             let word = Word::Unset(Property { name, is_field });
@@ -127,15 +139,15 @@ fn carry_out<R: Files<File = File> + AllocGlobal + Clock + Clone + Drop, O: Writ
             on_files(rt, word, package, log, out, err)
         }
         Line::Import(package, log, from) => {
-            on_files(rt, Word::Import(from), package, log, out, err)
+            on_files(rt, Word::Import(&from), package, log, out, err)
         }
         Line::Build(package, log, folder) => {
             on_files(rt, Word::Build(folder), package, log, out, err)
         }
-        Line::Show(path, log, parts, pages) => {
-            let look = Look::Show(parts, terminals.out);
-            look_at(rt, look, path, log, pages, out, err)
-        }
+        Line::Show(path, log, parts, is_csv, pages) => match form_of(parts, is_csv, terminals) {
+            Ok(form) => look_at(rt, Look::Show(parts, form), path, log, pages, out, err),
+            Err(why) => tell_words(why, err),
+        },
         Line::Check(files, log, places, pages) => {
             let look = Look::Check(places, 1 < files.len());
             look_at_each(rt, look, &files, log, pages, out, err)
@@ -156,8 +168,8 @@ fn carry_out<R: Files<File = File> + AllocGlobal + Clock + Clone + Drop, O: Writ
 // What is done with a package that is only read, by the code pages of its texts.
 #[derive(Clone, Copy, Debug)]
 enum Look<'a> {
-    // With its parts, and whether a person reads them.
-    Show(Parts<'a>, bool),
+    // With its parts, and how rows stand.
+    Show(Parts<'a>, Form),
     // With whether all places are told, and whether the file is named.
     Check(bool, bool),
     // With the rules that are left out, whether the file is named, and whether a person reads what is found.
@@ -230,9 +242,7 @@ fn look_by<R: Files<File = File> + AllocGlobal, O: Write, E: Write>(
         Err(status) => return status,
     };
     match look {
-        Look::Show(parts, is_terminal) => {
-            show_package(rt, &names, parts, pages, is_terminal, out, err)
-        }
+        Look::Show(parts, form) => show_package(rt, &names, parts, pages, form, out, err),
         Look::Check(is_whole, names_file) => {
             let checking = Checking {
                 pages,
@@ -253,6 +263,24 @@ fn look_by<R: Files<File = File> + AllocGlobal, O: Write, E: Write>(
         Look::Export(folder) => export_package(rt, &names, pages, folder, err),
         Look::Get(name, is_field) => get_property(rt, &names, name, is_field, pages, out, err),
     }
+}
+
+// How rows are shown, or why these words say nothing.
+fn form_of(parts: Parts<'_>, is_csv: bool, terminals: Terminals) -> Result<Form, &'static str> {
+    if is_csv {
+        return if parts.table.is_none() || parts.summary || parts.streams || parts.tree {
+            Err(
+                "--csv shows one table alone; name a TABLE, and leave --summary, --streams and --tree out",
+            )
+        } else {
+            Ok(Form::Commas)
+        };
+    }
+    Ok(if terminals.out {
+        Form::Columns
+    } else {
+        Form::Json
+    })
 }
 
 // Tells what is wrong with a package's contents, and which of its texts other programs take for several.
@@ -366,13 +394,12 @@ enum Word<'a> {
     List,
     // With the path of the command file, whether progress is shown, and how it is run.
     Run(&'a str, bool, RunOptions),
-    // With the value.
-    Set(Property<'a>, &'a str),
+    Set(Properties<'a>),
     Unset(Property<'a>),
     // With the name of the stream, and the path of the file.
     Put(&'a str, &'a str),
-    // With the path of the file or folder.
-    Import(&'a str),
+    // With the paths of files and folders.
+    Import(&'a [&'a str]),
     // With the path of the folder.
     Build(&'a str),
 }
@@ -427,7 +454,7 @@ fn do_word<R: Files<File = File> + AllocGlobal + Clock + Clone + Drop, O: Write,
         Word::Run(commands, shows_progress, options) => {
             return run_file(rt, names, commands, out, err, shows_progress, options);
         }
-        Word::Set(property, value) => return set_property(rt, names, property, value, err),
+        Word::Set(properties) => return set_properties(rt, names, properties, err),
         Word::Unset(property) => return unset_property(rt, names, property, err),
         Word::Put(stream, from) => return put_stream(rt, names, stream, from, err),
         Word::Import(from) => return import(rt, names, from, err),
@@ -436,7 +463,7 @@ fn do_word<R: Files<File = File> + AllocGlobal + Clock + Clone + Drop, O: Write,
     status_of(ended, names, err)
 }
 
-// Runs the commands of a file, which is read before a package is opened.
+// Runs the commands of a file, which is read before a package is opened. The status is 0 only where a session ran them all, and refused none.
 fn run_file<R: Files<File = File> + AllocGlobal + Clock, O: Write, E: Write>(
     rt: &R,
     names: &Names,
@@ -446,7 +473,8 @@ fn run_file<R: Files<File = File> + AllocGlobal + Clock, O: Write, E: Write>(
     shows_progress: bool,
     options: RunOptions,
 ) -> u8
-    ensures { result ≤ 3 }
+    ensures most { result ≤ 3 }
+    ensures done { result ≡ 0 → (requests : List Request) × HasRun requests Done }
 {
     let mut commands = match commands_in(rt, path, options.quiet, err) {
         Ok(commands) => commands,
@@ -467,9 +495,24 @@ fn run_file<R: Files<File = File> + AllocGlobal + Clock, O: Write, E: Write>(
             return 3;
         }
     }
-    let manner = manner_of(options);
+    run_told(rt, names, &commands, out, err, shows_progress, options)
+}
+
+// Runs commands, and tells what went wrong. The status is 0 only where a session ran them all, and refused none.
+fn run_told<R: Files<File = File> + AllocGlobal + Clock, O: Write, E: Write>(
+    rt: &R,
+    names: &Names,
+    commands: &[Command],
+    out: &mut O,
+    err: &mut E,
+    shows_progress: bool,
+    options: RunOptions,
+) -> u8
+    ensures most { result ≤ 3 }
+    ensures done { result ≡ 0 → HasRun (map request_of commands.now) Done }
+{
     let mut progress = Progress::new(rt, err, shows_progress, commands.len());
-    let ended = run(rt, names, &commands, manner, out, &mut progress);
+    let ended = run(rt, names, commands, manner_of(options), out, &mut progress);
     status_of(ended, names, err)
 }
 
@@ -518,7 +561,7 @@ fn tell_slip<E: Write>(path: &str, number: usize, err: &mut E) {
 
 // The status of a word, and what went wrong is told.
 pub(crate) fn status_of<E: Write>(ended: Result<Ending, Failure>, names: &Names, err: &mut E) -> u8
-    ensures { result ≤ 3 }
+    ensures { result ≡ status_in ended }
 {
     match ended {
         Ok(Ending::Done) => 0,

@@ -1,10 +1,15 @@
 //! What is done on the two files of a package: a function for each call, since what is told of a call costs time wherever it is seen.
+ghost use Rattle.command_file.specs.RequestsOf.{request_of};
+ghost use Rattle.installer_runs.specs.Runs.{RunsAnyhow};
+ghost use Rattle.std.specs.Prelude.{IfOk, map};
+
 use cfb::{CaseMapper, MemoryMedium};
 use cfb_medium::Error;
 use installer::Command;
 use installer_runs::{Ending, Listener, Until, adopt_in_place_on, copy_on, create_on, run_on};
 use msi::Package;
 use package_files::PackageDevice;
+use staged::Device;
 use std::alloc::Global;
 use std::fs::File;
 use std::rt::Files;
@@ -20,13 +25,16 @@ pub(crate) fn create_package<R: Files<File = File>>(
 }
 
 /// Runs commands on a package that is there, to the last or to the first that is refused. The one error is `Memory`: then nothing was done.
-pub(crate) fn run_commands<R: Files<File = File>, L: Listener>(
+pub(crate) fn run_commands<D: Device + Drop, L: Listener>(
     alloc: Global,
-    device: PackageDevice<'_, R>,
+    device: D,
     commands: &[Command],
     until: Until,
     listener: &mut L,
-) -> Result<Ending, Error> {
+) -> Result<Ending, Error>
+    ensures { IfOk result (λ ending. (last : D) × RunsAnyhow D.Device L.Listener until
+        (map request_of commands.now) ending device last listener.old listener.new) }
+{
     let letters = CaseMapper::ascii(alloc)?;
     let (_device, ending) = run_on(alloc, device, letters, commands, until, listener);
     Ok(ending)

@@ -1,5 +1,5 @@
 -- What a line says of the words.
-use Rattle.std.specs.Prelude.{◌≡◌, ◌<◌, Bool, false, List, [], ◌∷◌, Option, Some, None, codes, length, map, option_map}
+use Rattle.std.specs.Prelude.{◌≡◌, ◌<◌, Bool, false, List, [], ◌∷◌, Option, Some, None, codes, length, map, option_map, unwrap_or}
 use Rattle.std.specs.Borrow.{Bor}
 use Rattle.std.specs.Str.{bytes_eq}
 use Rattle.clap.specs.Words.{Row, Text, all_of, first_of, subcommand_of}
@@ -20,26 +20,33 @@ words_of_line (Recover home log) = (codes "recover", (codes "PACKAGE", home.now)
 words_of_line (Run home log commands options) = (codes "run", (codes "PACKAGE", home.now) ∷ [])
 words_of_line (Adopt home log source beside adoption) = (codes "adopt", (codes "PACKAGE", home.now) ∷ [])
 words_of_line (ListNames home log) = (codes "list", (codes "PACKAGE", home.now) ∷ [])
-words_of_line (Show file log parts pages) = (codes "show", (codes "FILE", file.now) ∷ [])
+words_of_line (Show file log parts csv pages) = (codes "show", (codes "FILE", file.now) ∷ [])
 words_of_line (Check files log places pages) = (codes "check", [])
 words_of_line (Validate files log ignored pages) = (codes "validate", [])
 words_of_line (Export file log folder pages) = (codes "export", (codes "FILE", file.now) ∷ (codes "FOLDER", folder.now) ∷ [])
 words_of_line (Get file log name summary pages) = (codes "get", (codes "FILE", file.now) ∷ (codes "NAME", name.now) ∷ [])
-words_of_line (Set home log name value summary) = (codes "set", (codes "PACKAGE", home.now) ∷ (codes "NAME", name.now) ∷ (codes "VALUE", value.now) ∷ [])
+words_of_line (Set home log name value more summary) = (codes "set", (codes "PACKAGE", home.now) ∷ (codes "NAME", name.now) ∷ (codes "VALUE", value.now) ∷ [])
 words_of_line (Unset home log name summary) = (codes "unset", (codes "PACKAGE", home.now) ∷ (codes "NAME", name.now) ∷ [])
 words_of_line (Extract file log stream to) = (codes "extract", (codes "FILE", file.now) ∷ (codes "STREAM", stream.now) ∷ (codes "PATH", to.now) ∷ [])
 words_of_line (Put home log stream from) = (codes "put", (codes "PACKAGE", home.now) ∷ (codes "STREAM", stream.now) ∷ (codes "PATH", from.now) ∷ [])
 words_of_line (Build home log folder) = (codes "build", (codes "PACKAGE", home.now) ∷ (codes "FOLDER", folder.now) ∷ [])
-words_of_line (Import home log from) = (codes "import", (codes "PACKAGE", home.now) ∷ (codes "PATH", from.now) ∷ [])
+words_of_line (Import home log paths) = (codes "import", (codes "PACKAGE", home.now) ∷ [])
 
 -- these paths were given under these names
 abbrev pub AreIn : List (Text × Text) → List Row → Type 0
 AreIn [] rows = Unit {0}
 AreIn (path ∷ paths) rows = (first_of path.0 rows ≡ Some path.1) × AreIn paths rows
 
--- these are all the files that were given, one at least, in the order in which they were
+-- these are all the paths that were given under this name, one at least, in the order in which they were
+abbrev pub ArePaths : Text → List (Bor Text) → List Row → Type 0
+ArePaths name paths rows = (0 < length paths) × (Some (map (λ s. s.now) paths) ≡ all_of name rows)
+
 abbrev pub AreFiles : List (Bor Text) → List Row → Type 0
-AreFiles files rows = (0 < length files) × (Some (map (λ s. s.now) files) ≡ all_of (codes "FILE") rows)
+AreFiles files rows = ArePaths (codes "FILE") files rows
+
+-- these are all the further names and values, in the order in which they were given; none where none was
+abbrev pub AreMore : List (Bor Text) → List Row → Type 0
+AreMore more rows = map (λ s. s.now) more ≡ unwrap_or (all_of (codes "MORE") rows) []
 
 -- whether a flag was given: its row then says so
 abbrev pub is_set : Option Text → Bool
@@ -114,17 +121,17 @@ AsksFor (ListNames home log) rows = IsNamedIn log (first_of (codes "LOG") rows) 
 AsksFor (Adopt home log source beside adoption) rows = IsNamedIn log None rows × IsReadLog beside (codes "source-log") rows × IsReadLog source (codes "SOURCE") rows × IsAdoption adoption rows
 AsksFor (Run home log commands options) rows = let first = first_of (codes "COMMANDS") rows in let last = first_of (codes "LAST") rows in
     (Some commands.now ≡ commands_among first last) × IsNamedIn log (log_among first last) rows × AreOptions options rows
-AsksFor (Show file log parts pages) rows = IsReadLog log (codes "log") rows × AreAsked parts rows × AreReadPages pages rows
+AsksFor (Show file log parts csv pages) rows = IsReadLog log (codes "log") rows × AreAsked parts rows × (csv ≡ is_set (first_of (codes "csv") rows)) × AreReadPages pages rows
 AsksFor (Check files log places pages) rows = AreFiles files.items rows × IsReadLog log (codes "log") rows × (places ≡ is_set (first_of (codes "places") rows)) × AreReadPages pages rows
 AsksFor (Validate files log ignored pages) rows = AreFiles files.items rows × IsReadLog log (codes "log") rows × IsReadLog ignored (codes "ignore") rows × AreReadPages pages rows
 AsksFor (Export file log folder pages) rows = IsReadLog log (codes "log") rows × AreReadPages pages rows
 AsksFor (Get file log name summary pages) rows = IsReadLog log (codes "log") rows × (summary ≡ is_set (first_of (codes "summary") rows)) × AreReadPages pages rows
-AsksFor (Set home log name value summary) rows = IsNamedIn log None rows × (summary ≡ is_set (first_of (codes "summary") rows))
+AsksFor (Set home log name value more summary) rows = IsNamedIn log None rows × AreMore more.items rows × (summary ≡ is_set (first_of (codes "summary") rows))
 AsksFor (Unset home log name summary) rows = IsNamedIn log None rows × (summary ≡ is_set (first_of (codes "summary") rows))
 AsksFor (Extract file log stream to) rows = IsReadLog log (codes "log") rows
 AsksFor (Put home log stream from) rows = IsNamedIn log None rows
 AsksFor (Build home log folder) rows = IsNamedIn log None rows
-AsksFor (Import home log from) rows = IsNamedIn log None rows
+AsksFor (Import home log paths) rows = IsNamedIn log None rows × ArePaths (codes "PATH") paths.items rows
 
 -- the word that was found, with its paths, is what the line says
 abbrev pub SaidIn : Line → Option (Text × List Row) → Type 0

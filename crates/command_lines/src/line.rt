@@ -2,7 +2,7 @@
 ghost use Rattle.std.specs.Prelude.{◌≡◌, IfOk, IfErr, IfSome, codes, option_map, map, string_bytes, true};
 ghost use Rattle.clap.specs.Words.{first_of, found_of, kind_of, rows_of, subcommand_rows_of, takes};
 ghost use Rattle.command_words.specs.Words.{msidb};
-ghost use Rattle.command_lines.specs.Lines.{words_of_line, is_set, named, named_by, AreIn, AreAsked, AreFiles, AreOptions, ArePages, AreReadPages, AsksFor, IsAdoption, IsNamedIn, SaidIn, HasSaid};
+ghost use Rattle.command_lines.specs.Lines.{words_of_line, is_set, named, named_by, AreIn, AreAsked, AreFiles, AreMore, AreOptions, ArePages, ArePaths, AreReadPages, AsksFor, IsAdoption, IsNamedIn, SaidIn, HasSaid};
 
 use clap::error::ErrorKind;
 use clap::{ArgMatches, Error};
@@ -25,8 +25,8 @@ pub enum Line<'a> {
     Run(&'a str, Log<'a>, &'a str, RunOptions),
     /// List the tables and the streams.
     List(&'a str, Log<'a>),
-    /// Show parts of a package of any maker, with its log, where it is named.
-    Show(&'a str, Option<&'a str>, Parts<'a>, Pages<'a>),
+    /// Show parts of a package of any maker, with its log, where it is named, and whether a table is shown as comma-separated values.
+    Show(&'a str, Option<&'a str>, Parts<'a>, bool, Pages<'a>),
     /// Tell which rules packages of any maker break, and whether all places at which they do.
     Check(Vec<&'a str>, Option<&'a str>, bool, Pages<'a>),
     /// Tell which rules the contents of packages of any maker break, but those of these names.
@@ -35,16 +35,16 @@ pub enum Line<'a> {
     Export(&'a str, Option<&'a str>, &'a str, Pages<'a>),
     /// Tell the property of a name, or whether it is a field of the summary.
     Get(&'a str, Option<&'a str>, &'a str, bool, Pages<'a>),
-    /// Give the property of a name a value, or whether it is a field of the summary.
-    Set(&'a str, Log<'a>, &'a str, &'a str, bool),
+    /// Give the property of a name a value, and further ones theirs, each with its value behind it; or whether they are fields of the summary.
+    Set(&'a str, Log<'a>, &'a str, &'a str, Vec<&'a str>, bool),
     /// Take the property of a name away, or whether it is a field of the summary.
     Unset(&'a str, Log<'a>, &'a str, bool),
     /// Write a stream to a new file.
     Extract(&'a str, Option<&'a str>, &'a str, &'a str),
     /// Put the bytes of a file into a stream.
     Put(&'a str, Log<'a>, &'a str, &'a str),
-    /// Give tables the rows of exported files: of one, or of those in a folder.
-    Import(&'a str, Log<'a>, &'a str),
+    /// Give tables the rows of exported files: of those at these paths, or in the folders there.
+    Import(&'a str, Log<'a>, Vec<&'a str>),
     /// Make a package of an exported folder.
     Build(&'a str, Log<'a>, &'a str),
 }
@@ -79,9 +79,10 @@ fn line_of<'a>(alloc: Global, name: &str, paths: &ArgMatches<'a>) -> Option<Line
         "show" => {
             let file = path(paths, "FILE")?;
             let parts = parts_in(paths);
+            let csv = has_flag(paths, "csv");
             let log = path(paths, "log");
             let pages = read_pages_in(paths);
-            Some(Line::Show(file, log, parts, pages))
+            Some(Line::Show(file, log, parts, csv, pages))
         }
         "check" => line_of_check(alloc, paths),
         "export" => {
@@ -95,11 +96,11 @@ fn line_of<'a>(alloc: Global, name: &str, paths: &ArgMatches<'a>) -> Option<Line
         "run" => line_of_run(paths),
         "adopt" => line_of_adoption(paths),
         "get" => line_of_get(paths),
-        "set" => line_of_set(paths),
+        "set" => line_of_set(alloc, paths),
         "unset" => line_of_unset(paths),
         "extract" => line_of_extract(paths),
         "put" => line_of_put(paths),
-        "import" => line_of_import(paths),
+        "import" => line_of_import(alloc, paths),
         "build" => line_of_build(paths),
         _ => line_on_package(name, paths),
     }
@@ -179,8 +180,8 @@ fn line_of_get<'a>(paths: &ArgMatches<'a>) -> Option<Line<'a>>
     Some(Line::Get(file, log, name, summary, pages))
 }
 
-// The line of the word that sets a property.
-fn line_of_set<'a>(paths: &ArgMatches<'a>) -> Option<Line<'a>>
+// The line of the word that sets properties.
+fn line_of_set<'a>(alloc: Global, paths: &ArgMatches<'a>) -> Option<Line<'a>>
     ensures { IfSome result (λ line. ((words_of_line line).0 ≡ codes "set")
         × AreIn (words_of_line line).1 (rows_of (found_of paths.now))
         × AsksFor line (rows_of (found_of paths.now))) }
@@ -188,9 +189,10 @@ fn line_of_set<'a>(paths: &ArgMatches<'a>) -> Option<Line<'a>>
     let package = path(paths, "PACKAGE")?;
     let name = path(paths, "NAME")?;
     let value = path(paths, "VALUE")?;
+    let more = more_in(alloc, paths)?;
     let log = log_in(None, paths);
     let summary = has_flag(paths, "summary");
-    Some(Line::Set(package, log, name, value, summary))
+    Some(Line::Set(package, log, name, value, more, summary))
 }
 
 // The line of the word that takes a property away.
@@ -233,13 +235,13 @@ fn line_of_put<'a>(paths: &ArgMatches<'a>) -> Option<Line<'a>>
 }
 
 // The line of the word that gives tables the rows of files.
-fn line_of_import<'a>(paths: &ArgMatches<'a>) -> Option<Line<'a>>
+fn line_of_import<'a>(alloc: Global, paths: &ArgMatches<'a>) -> Option<Line<'a>>
     ensures { IfSome result (λ line. ((words_of_line line).0 ≡ codes "import")
         × AreIn (words_of_line line).1 (rows_of (found_of paths.now))
         × AsksFor line (rows_of (found_of paths.now))) }
 {
     let package = path(paths, "PACKAGE")?;
-    let from = path(paths, "PATH")?;
+    let from = several_in(alloc, paths, "PATH")?;
     let log = log_in(None, paths);
     Some(Line::Import(package, log, from))
 }
@@ -352,15 +354,34 @@ fn has_flag(paths: &ArgMatches<'_>, id: &str) -> bool
 }
 
 // The files of a word that takes several. None where memory runs out.
-#[tactic(auto, using(crate::proofs::Firsts::all_is))]
 fn files_in<'a>(alloc: Global, paths: &ArgMatches<'a>) -> Option<Vec<&'a str>>
     ensures { IfSome result (λ files. AreFiles files.items (rows_of (found_of paths.now))) }
 {
-    let files = paths.get_strs("FILE")?;
-    if files.is_empty() {
+    several_in(alloc, paths, "FILE")
+}
+
+// The paths of a word that takes several under a name. None where memory runs out.
+#[tactic(auto, using(crate::proofs::Firsts::all_is))]
+fn several_in<'a>(alloc: Global, paths: &ArgMatches<'a>, id: &str) -> Option<Vec<&'a str>>
+    ensures { IfSome result (λ several. ArePaths id.now several.items
+        (rows_of (found_of paths.now))) }
+{
+    let several = paths.get_strs(id)?;
+    if several.is_empty() {
         return None;
     }
-    Vec::from_slice(alloc, files).ok()
+    Vec::from_slice(alloc, several).ok()
+}
+
+// Further names with their values. None where memory runs out.
+#[tactic(auto, using(crate::proofs::Firsts::all_is))]
+fn more_in<'a>(alloc: Global, paths: &ArgMatches<'a>) -> Option<Vec<&'a str>>
+    ensures { IfSome result (λ more. AreMore more.items (rows_of (found_of paths.now))) }
+{
+    match paths.get_strs("MORE") {
+        Some(more) => Vec::from_slice(alloc, more).ok(),
+        None => Some(Vec::new(alloc)),
+    }
 }
 
 #[tactic(auto, using(crate::proofs::Firsts::first_is))]

@@ -8,9 +8,12 @@ use Rattle.clap.specs.declared.builder.action.ArgAction.TheVariants.{SetTrue}
 abbrev pub path : Text → Rule
 path id = record (new_rule id) { required = true }
 
--- one file or more
+-- one path or more
+abbrev pub several : Text → Rule
+several id = record (path id) { range = Some (record { start_inclusive = 1; end_inclusive = usize_max }) }
+
 abbrev pub files : Rule
-files = record (path (codes "FILE")) { range = Some (record { start_inclusive = 1; end_inclusive = usize_max }) }
+files = several (codes "FILE")
 
 -- the log behind `--log`, of which no more than one is named
 abbrev pub log_option : Rule
@@ -56,8 +59,15 @@ or_summary app = with_rule (with_rule app (flag (codes "summary"))) log_option
 abbrev pub property_got : App
 property_got = by_pages (or_summary (with_two (new_app (codes "get")) (codes "FILE") (codes "NAME")))
 
+abbrev pub value_set : App
+value_set = with_rule (with_two (new_app (codes "set")) (codes "PACKAGE") (codes "NAME")) (path (codes "VALUE"))
+
+-- further names with their values, which may be missing
+abbrev pub more : Rule
+more = record (new_rule (codes "MORE")) { range = Some (record { start_inclusive = 1; end_inclusive = usize_max }) }
+
 abbrev pub property_set : App
-property_set = or_summary (with_rule (with_two (new_app (codes "set")) (codes "PACKAGE") (codes "NAME")) (path (codes "VALUE")))
+property_set = or_summary (with_rule value_set more)
 
 abbrev pub property_unset : App
 property_unset = or_summary (with_two (new_app (codes "unset")) (codes "PACKAGE") (codes "NAME"))
@@ -68,7 +78,7 @@ stream_moved name file = with_rule (with_rule (with_two (new_app name) file (cod
 
 -- the word that gives tables the rows of files, with the log
 abbrev pub imported : App
-imported = with_rule (with_two (new_app (codes "import")) (codes "PACKAGE") (codes "PATH")) log_option
+imported = with_rule (with_rule (with_rule (new_app (codes "import")) (path (codes "PACKAGE"))) (several (codes "PATH"))) log_option
 
 -- the word that makes a package of a folder, with the log
 abbrev pub built : App
@@ -93,7 +103,7 @@ validated = with_rule (with_rule source_logged (flag (codes "validation"))) (fla
 abbrev pub adopted : App
 adopted = with_rule (with_rule (with_rule validated (flag (codes "to-utf8"))) (page_option (codes "from-codepage"))) (page_option (codes "from-summary-codepage"))
 
--- the word that shows a package: its path, a table's name, which may be missing, three flags, its log, and two pages
+-- the word that shows a package: its path, a table's name, which may be missing, four flags, its log, and two pages
 abbrev pub table_shown : App
 table_shown = with_rule (with_rule (new_app (codes "show")) (path (codes "FILE"))) (new_rule (codes "TABLE"))
 
@@ -106,8 +116,11 @@ streams_shown = with_rule summary_shown (flag (codes "streams"))
 abbrev pub tree_shown : App
 tree_shown = with_rule streams_shown (flag (codes "tree"))
 
+abbrev pub csv_shown : App
+csv_shown = with_rule tree_shown (flag (codes "csv"))
+
 abbrev pub shown : App
-shown = by_pages (with_rule tree_shown log_option)
+shown = by_pages (with_rule csv_shown log_option)
 
 -- the word that writes a package to a folder: the paths of both, its log, and two pages
 abbrev pub exported : App

@@ -1,7 +1,7 @@
 //! The words that the program takes.
 ghost use Rattle.std.specs.Prelude.{◌≡◌, codes, true, false, IfOk, IfErr, map, string_bytes};
 ghost use Rattle.clap.specs.Words.{app_of, kind_of, new_app, new_rule, rule_of, takes, with_rule, with_subcommand, HasMatchesOf};
-ghost use Rattle.command_words.specs.Words.{adopted, bare, built, by_pages, checked, contents_judged, contents_read, exported, files, flag, ignore_option, imported, log_option, msidb, on_package, or_summary, page_option, path, property_got, property_set, property_unset, run, run_logged, run_quiet, shown, source_log_option, source_logged, sourced, stream_moved, streams_shown, summary_shown, table_shown, tree_shown, two_paths, validated, with_adopt, with_contents, with_files, with_get, with_imports, with_log, with_looks, with_put, with_two, with_unset, without_run};
+ghost use Rattle.command_words.specs.Words.{adopted, bare, built, by_pages, checked, contents_judged, contents_read, csv_shown, exported, files, flag, ignore_option, imported, log_option, more, msidb, on_package, or_summary, page_option, path, property_got, property_set, property_unset, run, run_logged, run_quiet, several, shown, source_log_option, source_logged, sourced, stream_moved, streams_shown, summary_shown, table_shown, tree_shown, two_paths, validated, value_set, with_adopt, with_contents, with_files, with_get, with_imports, with_log, with_looks, with_put, with_two, with_unset, without_run};
 
 use clap::error::ErrorKind;
 use clap::{Arg, ArgAction, ArgMatches, Command, Error};
@@ -57,12 +57,20 @@ fn needed_path<'a>(alloc: Global, id: &'a str, help: &'a str) -> Arg<'a>
     Arg::new(alloc, id).required(true).help(help)
 }
 
+// One path or more.
+fn needed_paths<'a>(alloc: Global, id: &'a str, help: &'a str) -> Arg<'a>
+    ensures rule { rule_of result ≡ several id.entry.now }
+    ensures local { result.global ≡ false }
+{
+    needed_path(alloc, id, help).num_args(1..)
+}
+
 // The paths of one package or more.
 fn needed_files<'a>(alloc: Global) -> Arg<'a>
     ensures rule { rule_of result ≡ files }
     ensures local { result.global ≡ false }
 {
-    needed_path(alloc, "FILE", "The package, or several").num_args(1..)
+    needed_paths(alloc, "FILE", "The package, or several")
 }
 
 // The option that names the log.
@@ -222,7 +230,7 @@ fn with_run<'a>(alloc: Global) -> Result<Command<'a>, AllocError>
 
 // What stands behind the help of the word that shows a package.
 fn help_on_show<'a>() -> &'a str {
-    "Example: msidb show setup.msi Property\nPrints a line of JSON for each part that is asked for, or for all but the tree; a table's rows stand behind its columns. Where a commit was cut short, what recover will make of it is shown; nothing is written.\nStatus: 0 done, 1 no table has the name, 3 the file is no package, or a part of it can't be read."
+    "Examples: msidb show setup.msi Property\n          msidb show setup.msi File --csv\nPrints a line of JSON for each part that is asked for, or for all but the tree; a table's rows stand behind its columns. A property that is a\ntime has it as a date in UTC, too. With --csv null is nothing, as an empty text is. Where a commit was cut short, what recover will make of it is shown; nothing is written.\nStatus: 0 done, 1 no table has the name, 2 --csv without a table, or with other parts, 3 the file is no package, or a part of it can't be read."
 }
 
 // The word that shows a package, with the path of a file and the name of a table.
@@ -279,11 +287,24 @@ fn with_tree<'a>(alloc: Global) -> Result<Command<'a>, AllocError>
     add(command, tree)
 }
 
+// The same with one for comma-separated values.
+fn with_csv<'a>(alloc: Global) -> Result<Command<'a>, AllocError>
+    ensures { IfOk result (λ c. app_of c ≡ csv_shown) }
+{
+    let command = with_tree(alloc)?;
+    let csv = flag_of(
+        alloc,
+        "csv",
+        "The table as comma-separated values, behind the names of its columns",
+    );
+    add(command, csv)
+}
+
 // The same with the log.
 fn with_file<'a>(alloc: Global) -> Result<Command<'a>, AllocError>
     ensures { IfOk result (λ c. app_of c ≡ shown) }
 {
-    let command = with_tree(alloc)?;
+    let command = with_csv(alloc)?;
     let logged = add(command, log_behind(alloc))?;
     by_pages(alloc, logged)
 }
@@ -448,7 +469,7 @@ fn or_summary<'a>(alloc: Global, command: Command<'a>) -> Result<Command<'a>, Al
 
 // What stands behind the help of the words on one property.
 fn help_on_properties<'a>() -> &'a str {
-    "Examples: msidb get setup.msi ProductVersion\n          msidb set setup.msi ProductVersion 1.2.3\n          msidb unset setup.msi ALLUSERS\n          msidb get --summary setup.msi title\nA property is a row of the table Property. Each of these words commits once, or changes nothing.\nFields of the summary: title subject author keywords comments arch languages last_saved_by uuid last_printed creation_time last_saved_time\npage_count word_count character_count creating_application doc_security codepage. Several keywords or languages stand with commas between\nthem; a time is as 2024-09-05T08:53:20Z, in UTC.\nStatus: 0 done, 1 there is none, or a rule refused it, 3 a fault, or files that were refused."
+    "Examples: msidb get setup.msi ProductVersion\n          msidb set setup.msi ProductVersion 1.2.3\n          msidb set setup.msi ProductVersion 1.2.3 ProductCode {DDCF7CCD-8AF1-4F16-9181-134A919F1CD6}\n          msidb unset setup.msi ALLUSERS\n          msidb get --summary setup.msi title\nA property is a row of the table Property. set and unset commit once, or change nothing; set takes several names, each with its value.\nFields of the summary: title subject author keywords comments arch languages last_saved_by uuid last_printed creation_time last_saved_time\npage_count word_count character_count creating_application doc_security codepage. Several keywords or languages stand with commas between\nthem; a time is as 2024-09-05T08:53:20Z, in UTC.\nStatus: 0 done, 1 there is none, or a rule refused it, 3 a fault, or files that were refused."
 }
 
 // The word that tells a property.
@@ -468,16 +489,14 @@ fn with_property_got<'a>(alloc: Global) -> Result<Command<'a>, AllocError>
     by_pages(alloc, found)
 }
 
-// The word that sets one, but for its flag and log.
+// The word that sets one, but for further ones, its flag and log.
 fn with_value<'a>(alloc: Global) -> Result<Command<'a>, AllocError>
-    ensures { IfOk result (λ c. app_of c ≡ with_rule
-        (with_two (new_app (codes "set")) (codes "PACKAGE") (codes "NAME"))
-        (path (codes "VALUE"))) }
+    ensures { IfOk result (λ c. app_of c ≡ value_set) }
 {
     let command = word(
         alloc,
         "set",
-        "Sets a property, or a field of the summary, and commits",
+        "Sets properties, or fields of the summary, and commits",
         help_on_properties(),
     );
     let package = needed_path(alloc, "PACKAGE", "The package");
@@ -491,11 +510,25 @@ fn with_value<'a>(alloc: Global) -> Result<Command<'a>, AllocError>
     add(named, value)
 }
 
-// The word that sets one.
+// Further names with their values.
+fn more_pairs<'a>(alloc: Global) -> Arg<'a>
+    ensures rule { rule_of result ≡ more }
+    ensures local { result.global ≡ false }
+{
+    optional_path(
+        alloc,
+        "MORE",
+        "Further names, each with its value behind it; all are one commit",
+    )
+    .num_args(1..)
+}
+
+// The word that sets properties.
 fn with_property_set<'a>(alloc: Global) -> Result<Command<'a>, AllocError>
     ensures { IfOk result (λ c. app_of c ≡ property_set) }
 {
-    let command = with_value(alloc)?;
+    let first = with_value(alloc)?;
+    let command = add(first, more_pairs(alloc))?;
     or_summary(alloc, command)
 }
 
@@ -576,12 +609,12 @@ fn with_import<'a>(alloc: Global) -> Result<Command<'a>, AllocError>
         alloc,
         "import",
         "Gives tables the rows of exported files, and commits",
-        "Example: msidb import setup.msi Property.idt\nPATH is a file of an exported table (.idt), or a folder of such. A table that the package has loses its rows first; one that it lacks is made.\nThe files of bytes lie in a folder beside the file that has the table's name, or in _Streams. All files are read first, and all is one commit.\nStatus: 0 done, 1 a rule refused it, 2 a file is wrong, told with its line and column, 3 a fault, or files that were refused.",
+        "Examples: msidb import setup.msi Property.idt\n          msidb import setup.msi Property.idt File.idt\nPATH is a file of an exported table (.idt), or a folder of such. A table that the package has loses its rows first; one that it lacks is made.\nThe files of bytes lie in a folder beside the file that has the table's name, or in _Streams. All files are read first, and all is one commit.\nStatus: 0 done, 1 a rule refused it, 2 a file is wrong, told with its line and column, 3 a fault, or files that were refused.",
     );
     let package = needed_path(alloc, "PACKAGE", "The package");
-    let from = needed_path(alloc, "PATH", "The file or the folder");
-    let both = with_two(command, package, from)?;
-    add(both, log_behind(alloc))
+    let first = add(command, package)?;
+    let from = needed_paths(alloc, "PATH", "The file or the folder, or several");
+    with_two(first, from, log_behind(alloc))
 }
 
 // What stands behind the help of the word that judges what a package holds.

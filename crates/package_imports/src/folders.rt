@@ -1,6 +1,6 @@
 //! An exported folder, as the package that it says.
 use crate::paths::{joined, tell_unread};
-use crate::sources::{Bytes, Purpose, Source, no_memory, read_sources_for};
+use crate::sources::{Bytes, Source, no_memory, read_sources_of};
 use idt_imports::{
     IdtTable, Imported, Refusal, check_page, check_summary_page, stored_columns, stored_rows,
 };
@@ -28,7 +28,7 @@ pub fn read_folder<R: Files<File = File> + AllocGlobal + Clone + Drop, E: Write>
         let _ = writeln!(err, "msidb: {folder}: it is no folder");
         return Err(2);
     }
-    let sources = read_sources_for(rt, folder, Purpose::Build, err)?;
+    let sources = read_sources_of(rt, folder, err)?;
     let mut reading = Reading::new(rt.alloc());
     for source in sources {
         if let Err(why) = reading.add(source) {

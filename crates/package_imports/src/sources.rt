@@ -30,7 +30,7 @@ pub struct Source {
 
 /// What files are read for.
 #[derive(Clone, Copy, Debug, PartialEq, Eq)]
-pub(crate) enum Purpose {
+enum Purpose {
     /// For commands: what no insert takes is refused.
     Import,
     /// For a package that holds just what they say.
@@ -43,39 +43,60 @@ const STREAMS: &str = "_Streams";
 // The line of the first row.
 const FIRST_ROW: usize = 4;
 
-/// What the file at a path says, or each file of an exported table in a folder. The first fault of one is told, with the file, its line and
-/// its column, and the status is given: 2, or 3 for want of memory.
+/// What the files at these paths say, or of a folder each file of an exported table there. The first fault of one is told, with the file, its
+/// line and its column, and the status is given: 2, or 3 for want of memory.
 pub fn read_sources<R: Files<File = File> + AllocGlobal + Clone + Drop, E: Write>(
     rt: &R,
-    path: &str,
-    err: &mut E,
-) -> Result<Vec<Source>, u8> {
-    read_sources_for(rt, path, Purpose::Import, err)
-}
-
-/// The same, for a purpose.
-pub(crate) fn read_sources_for<R: Files<File = File> + AllocGlobal + Clone + Drop, E: Write>(
-    rt: &R,
-    path: &str,
-    purpose: Purpose,
+    paths: &[&str],
     err: &mut E,
 ) -> Result<Vec<Source>, u8> {
     let mut sources = Vec::new(rt.alloc());
+    for path in paths {
+        add_sources(rt, path, Purpose::Import, &mut sources, err)?;
+    }
+    each_once(rt.alloc(), sources, err)
+}
+
+/// The same of a folder of which a package is built.
+pub(crate) fn read_sources_of<R: Files<File = File> + AllocGlobal + Clone + Drop, E: Write>(
+    rt: &R,
+    folder: &str,
+    err: &mut E,
+) -> Result<Vec<Source>, u8> {
+    let mut sources = Vec::new(rt.alloc());
+    add_sources(rt, folder, Purpose::Build, &mut sources, err)?;
+    each_once(rt.alloc(), sources, err)
+}
+
+// Adds what the file at a path says, or each file of an exported table in the folder there.
+fn add_sources<R: Files<File = File> + AllocGlobal + Clone + Drop, E: Write>(
+    rt: &R,
+    path: &str,
+    purpose: Purpose,
+    sources: &mut Vec<Source>,
+    err: &mut E,
+) -> Result<(), u8> {
     for path in paths_at(rt, path, err)? {
         let source = read_source(rt, path, purpose, err)?;
         if sources.push(source).is_err() {
             return Err(no_memory(err));
         }
     }
-    match second_of(rt.alloc(), &sources) {
+    Ok(())
+}
+
+// Refuses a file that says what another has said.
+fn each_once<E: Write>(
+    alloc: Global,
+    sources: Vec<Source>,
+    err: &mut E,
+) -> Result<Vec<Source>, u8> {
+    match second_of(alloc, &sources) {
         Ok(None) => Ok(sources),
         Ok(Some(source)) => {
             let path = &source.path;
             let what = what_of(source);
-            let _ = writeln!(
-                err,
-                "msidb: {path}: another file of the folder says {what}, too"
-            );
+            let _ = writeln!(err, "msidb: {path}: another file says {what}, too");
             Err(2)
         }
         Err(_) => Err(no_memory(err)),

@@ -7,10 +7,11 @@ mod folder;
 mod grids;
 mod json;
 mod properties;
+mod records;
 mod show;
 mod tree;
 
 pub use export::export_package;
 pub use extract::{extract_stream, is_stream_name};
 pub use properties::{NameFault, get_property, lacks_property, name_fault};
-pub use show::show_package;
+pub use show::{Form, show_package};

@@ -3,13 +3,14 @@ ghost use Rattle.std.specs.Prelude.{◌≤◌};
 
 use crate::grids::grid_lines;
 use crate::json::{text_of_json, value_of_cell, value_of_property};
+use crate::records::records_of;
 use crate::tree::{tree_at, write_tree};
 use cfb_medium::Error;
 use command_options::Parts;
 use installer::columns_value;
 use msi::Package;
 use msi_columns::Column;
-use msi_export::{StreamFacts, property_name};
+use msi_export::{StreamFacts, moment_text, property_name};
 use msi_props::PropertyValue;
 use msi_tables::{Row, Rows};
 use package_files::{
@@ -29,6 +30,17 @@ use text_columns::escaped;
 // The number of the summary's code page.
 const CODEPAGE: u32 = 1;
 
+/// How the rows of a table stand.
+#[derive(Clone, Copy, Debug, PartialEq, Eq)]
+pub enum Form {
+    /// A line of JSON each.
+    Json,
+    /// In aligned columns, for a person.
+    Columns,
+    /// As comma-separated values, behind the names of the columns.
+    Commas,
+}
+
 // How much was shown.
 #[derive(Clone, Copy, Debug, PartialEq, Eq)]
 enum Shown {
@@ -41,7 +53,7 @@ enum Shown {
 }
 
 /// Shows parts of a package, which is only read, as a recovery would leave it; the tree first, for which it need be no package but any
-/// compound file. On a terminal a table stands in aligned columns, elsewhere as lines of JSON. The status is 0 where all was shown, 1 where
+/// compound file. A table stands in the form that is asked for. The status is 0 where all was shown, 1 where
 /// no table has the name, 3 where the file is no package or a part of it can't be read, or its log is malformed, which is told with the
 /// file's name, and where nothing can be written; where nobody reads the answers any more it is what it was so far.
 pub fn show_package<'a, R: Files<File = File> + AllocGlobal, O: Write, E: Write>(
@@ -49,7 +61,7 @@ pub fn show_package<'a, R: Files<File = File> + AllocGlobal, O: Write, E: Write>
     names: &'a Names,
     parts: Parts<'_>,
     pages: Pages,
-    is_terminal: bool,
+    form: Form,
     out: &'a mut O,
     err: &'a mut E,
 ) -> u8
@@ -73,7 +85,7 @@ pub fn show_package<'a, R: Files<File = File> + AllocGlobal, O: Write, E: Write>
         }
     };
     let own = own_facts(rt, names, &package, &reread);
-    let mut page = Page::new(rt.alloc(), names.named(), own, is_terminal, out, err);
+    let mut page = Page::new(rt.alloc(), names.named(), own, form, out, err);
     match show_parts(&mut page, &mut package, parts) {
         Ok(Shown::Whole) => 0,
         Ok(Shown::NoTable) => 1,
@@ -146,8 +158,7 @@ struct Page<'a, O, E> {
     alloc: Global,
     path: &'a str,
     own: Own,
-    // A person reads them.
-    is_terminal: bool,
+    form: Form,
     out: Output<'a, O>,
     err: &'a mut E,
 }
@@ -157,7 +168,7 @@ impl<'a, O: Write, E: Write> Page<'a, O, E> {
         alloc: Global,
         path: &'a str,
         own: Own,
-        is_terminal: bool,
+        form: Form,
         out: &'a mut O,
         err: &'a mut E,
     ) -> Self {
@@ -165,7 +176,7 @@ impl<'a, O: Write, E: Write> Page<'a, O, E> {
             alloc,
             path,
             own,
-            is_terminal,
+            form,
             out: Output::new(out),
             err,
         }
@@ -203,7 +214,7 @@ impl<'a, O: Write, E: Write> Page<'a, O, E> {
     }
 
     fn show_value(&mut self, number: u32, value: &PropertyValue) -> Result<(), Error> {
-        let page = if self.is_terminal {
+        let page = if self.form == Form::Columns {
             page_named(number, value)
         } else {
             None
@@ -225,7 +236,7 @@ impl<'a, O: Write, E: Write> Page<'a, O, E> {
 
     // A table among others, for a person between its name and an empty line.
     fn show_one(&mut self, package: &mut Package<ShownFile>, name: &str) -> Result<Shown, Error> {
-        if !self.is_terminal {
+        if self.form != Form::Columns {
             return self.show_table(package, name);
         }
         let heading = one_line(self.alloc, name)?;
@@ -253,7 +264,7 @@ impl<'a, O: Write, E: Write> Page<'a, O, E> {
 
     // The columns of a table, and its rows, or why they can't be read.
     fn show_table(&mut self, package: &mut Package<ShownFile>, name: &str) -> Result<Shown, Error> {
-        if !self.is_terminal {
+        if self.form == Form::Json {
             let heading = heading_value(self.alloc, package, name)?;
             self.line(&heading)?;
         }
@@ -276,10 +287,10 @@ impl<'a, O: Write, E: Write> Page<'a, O, E> {
             Ok(rows) => rows,
             Err(error) => return Ok(Some(error)),
         };
-        if self.is_terminal {
-            self.show_grid(package, name, rows)?;
-        } else {
-            self.show_values(rows)?;
+        match self.form {
+            Form::Json => self.show_values(rows)?,
+            Form::Columns => self.show_grid(package, name, rows)?,
+            Form::Commas => self.show_records(package, name, rows)?,
         }
         Ok(None)
     }
@@ -304,6 +315,18 @@ impl<'a, O: Write, E: Write> Page<'a, O, E> {
             self.text(line)?;
         }
         Ok(())
+    }
+
+    // The names of columns, and rows, as comma-separated values.
+    fn show_records(
+        &mut self,
+        package: &Package<ShownFile>,
+        name: &str,
+        rows: Rows,
+    ) -> Result<(), Error> {
+        let records = records_of(self.alloc, package, name, rows)?;
+        // (the output ends the last line itself)
+        self.text(records.strip_suffix('\n').unwrap_or(&records))
     }
 
     // Each stream that belongs to no table, in the container's order.
@@ -351,13 +374,15 @@ fn page_named(number: u32, value: &PropertyValue) -> Option<&'static str> {
     }
 }
 
-// A property with its number and name, and what a code page is called, if that is given. A code page is a number without a sign.
+// A property with its number and name, its date where it is a time, and what a code page is called, if that is given. A code page is a number
+// without a sign.
 fn numbered_value(
     alloc: Global,
     number: u32,
     value: &PropertyValue,
     page: Option<&str>,
 ) -> Result<Json, AllocError> {
+    let date = date_of(alloc, value)?;
     let value = match value {
         PropertyValue::I2(page) if number == CODEPAGE => Json::from(page.cast_unsigned()),
         _ => value_of_property(alloc, value)?,
@@ -367,12 +392,23 @@ fn numbered_value(
         None => Json::Null,
     };
     let number = Json::from(number);
-    match page {
-        Some(page) => {
+    match (page, date) {
+        (Some(page), _) => {
             let page = text_value(alloc, page)?;
             json!(in alloc; {"name": name, "number": number, "page": page, "value": value})
         }
-        None => json!(in alloc; {"name": name, "number": number, "value": value}),
+        (None, Some(date)) => {
+            json!(in alloc; {"date": date, "name": name, "number": number, "value": value})
+        }
+        (None, None) => json!(in alloc; {"name": name, "number": number, "value": value}),
+    }
+}
+
+// The date of a time, in UTC; none of what is no time, or past the year 9999.
+fn date_of(alloc: Global, value: &PropertyValue) -> Result<Option<Json>, AllocError> {
+    match value {
+        PropertyValue::FileTime(moment) => Ok(moment_text(alloc, *moment)?.map(Json::String)),
+        _ => Ok(None),
     }
 }
 
