@@ -1,5 +1,5 @@
 // Loaded before a program, it numbers the program's calls on the files home.msi and home.log of the folder FOLDER, and on the folder
-// itself, from 1: lengths, reads, writes, syncs. The file CALLS gets a line for each, the kind, the file, the place and how many bytes,
+// itself, from 1: lengths, reads, writes, syncs. A new home.msi is home.msi.part until it is whole. The file CALLS gets a line for each, the kind, the file, the place and how many bytes,
 // with the bytes of a write behind it, and one for each write to the program's output. The call of the number FAILED isn't made and fails,
 // but that of a write, where HALF is set, the front half is written. Before that of the number STOPPED the program ends. No sync is made:
 // nothing that a program sees depends on it.
@@ -27,7 +27,9 @@ static const char *file_of(int fd) {
         return NULL;
     path[length] = 0;
     const char *rest = path + strlen(folder);
-    return !*rest ? "folder" : !strcmp(rest, "/home.msi") ? "home" : !strcmp(rest, "/home.log") ? "log" : NULL;
+    if (!strcmp(rest, "/home.msi") || !strcmp(rest, "/home.msi.part"))
+        return "home";
+    return !*rest ? "folder" : !strcmp(rest, "/home.log") ? "log" : NULL;
 }
 
 static void note(const char *kind, const char *file, long long at, size_t length, const void *bytes) {

@@ -51,7 +51,8 @@ module _ {F : Type 0} {g : Ghosts F} where
   means_kept old new tree k m = record {
     sound = k.sound ∙ m.sound;
     live = subst (λ l. live.LiveFileMeansTree l (mini_of new) tree) (sym k.letters) (means_stays (mini_of old) (mini_of new) k.mini (file_case_table old) tree m.live);
+    held = k.held m.held;
   }
 
   pub means_read : (old new : CompoundFile F g) (tree : Tree) → OnlyReadsFile old new → FileMeansTree old tree → FileMeansTree new tree
-  means_read old new tree r m = means_kept old new tree (record { mini = keeps_rests (mini_of old) (mini_of new) r.mini; letters = r.letters; sound = r.sound }) m
+  means_read old new tree r m = means_kept old new tree (record { mini = keeps_rests (mini_of old) (mini_of new) r.mini; letters = r.letters; sound = r.sound; held = r.held }) m

@@ -22,7 +22,7 @@ use Rattle.cfb_tree.specs.Entries.{HasSize}
 use Rattle.cfb.specs.FollowedRules.{FileMeansTree}
 use Rattle.cfb.specs.Publishing.{Publishes}
 use Rattle.cfb.specs.Streams.{FileHoldsTree}
-use Rattle.cfb.specs.Views.{file_case_table, mini_of, sound_of, FileShowsTree}
+use Rattle.cfb.specs.Views.{file_case_table, mini_of, sound_of, FileShowsTree, HoldsLinks}
 use Rattle.cfb.specs.declared.compound_file.CompoundFile.{CompoundFile}
 
 -- of the layer below, with its memory and bytes as they were
@@ -86,10 +86,11 @@ module _ {F : Type 0} {g : Ghosts F} (old new : MiniAllocator F g) (k : MiniKeep
 module _ {F : Type 0} {g : Ghosts F} (old new : CompoundFile F g) (k : MiniKeepsMemory (mini_of old) (mini_of new))
     (same : IsTrue (is_honest (allocator_of (mini_of old))) → bytes_of (allocator_of (mini_of new)) ≡ bytes_of (allocator_of (mini_of old)))
     (letters : file_case_table new ≡ file_case_table old) where
-  pub means_published : sound_of new ≡ sound_of old → has_failed_here (allocator_of (mini_of new)) ≡ false → (tree : Tree) → FileMeansTree old tree → FileMeansTree new tree
-  means_published sound alive tree m = record {
+  pub means_published : sound_of new ≡ sound_of old → HoldsLinks new → has_failed_here (allocator_of (mini_of new)) ≡ false → (tree : Tree) → FileMeansTree old tree → FileMeansTree new tree
+  means_published sound held alive tree m = record {
     sound = sound ∙ m.sound;
     live = subst (λ l. live.LiveFileMeansTree l (mini_of new) tree) (sym letters) (means_below (mini_of old) (mini_of new) k same alive (file_case_table old) tree m.live);
+    held = held;
   }
 
   pub holds_published : has_failed_here (allocator_of (mini_of new)) ≡ false → (tree : Tree) → FileHoldsTree old tree → FileHoldsTree new tree
@@ -111,19 +112,19 @@ module _ {F : Type 0} {g : Ghosts F} (old new : CompoundFile F g) (k : MiniKeeps
       (subst (λ es. EntriesHoldTree (file_case_table old) HasSize es tree) (sym k.directory.entries) h)
 
 module _ {F : Type 0} {g : Ghosts F} (has_published : F → List ℕ → Type 0) (old new : CompoundFile F g) where
-  pub published_so : {T E : Type 0} (r : Result T E) → MiniKeepsMemory (mini_of old) (mini_of new) → file_case_table new ≡ file_case_table old → sound_of new ≡ sound_of old
+  pub published_so : {T E : Type 0} (r : Result T E) → MiniKeepsMemory (mini_of old) (mini_of new) → file_case_table new ≡ file_case_table old → sound_of new ≡ sound_of old → HoldsLinks new
       → (IsTrue (is_honest (allocator_of (mini_of old))) → OnOk r (has_published (medium_of (allocator_of (mini_of new))) (bytes_of (allocator_of (mini_of old)))))
       → (has_failed_here (allocator_of (mini_of new)) ≡ false → IsTrue (is_honest (allocator_of (mini_of old))) → bytes_of (allocator_of (mini_of new)) ≡ bytes_of (allocator_of (mini_of old)))
       → OnOk r (has_failed_here (allocator_of (mini_of new)) ≡ false) → OnOk r (Publishes has_published old new)
-  published_so (Ok x) k letters sound published same alive = record {
+  published_so (Ok x) k letters sound held published same alive = record {
     published = published;
     bytes = same alive;
     live = alive;
-    means = means_published old new k (same alive) letters sound alive;
+    means = means_published old new k (same alive) letters sound held alive;
     holds = holds_published old new k (same alive) letters alive;
     shows = shown_published old new k (same alive) letters;
   }
-  published_so (Err e) k letters sound published same alive = tt
+  published_so (Err e) k letters sound held published same alive = tt
 
 -- what leaves nothing more leaves what one might have left before, or the bytes
 pub left_before : {M X : Type 0} {moment : M → ℕ} {crash_left_since : M → ℕ → X → Type 0} {old new : M} {P Q : X → Type 0}

@@ -85,6 +85,7 @@ module _ {F : Type 0} {g : Ghosts F} where
     means = λ tree m. record {
       sound = r.sound ∙ m.sound;
       live = subst (λ l. live.LiveFileMeansTree l (mini_of new) tree) (sym r.letters) (means_stays (mini_of old) (mini_of new) (keeps_rests (mini_of old) (mini_of new) r.mini) (file_case_table old) tree m.live);
+      held = r.held m.held;
     };
   }
 

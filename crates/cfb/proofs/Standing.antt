@@ -85,7 +85,7 @@ module _ {F : Type 0} {g : Ghosts F} where
       → (w : StreamIsWritten old path tree id content) → (then : StreamIsWritten new path tree id content) × (then.at.means.who ≡ w.at.means.who)
   read_keeps old new len k path tree id content size w =
       let has = subst (λ n. FileHasStream old n content) (sym size) (reads_written old path tree id content w) in
-      written_kept old new path tree id content w (keeps_rests (mini_of old) (mini_of new) k.rests.mini) k.rests.letters k.rests.sound (λ _. alike_same _ _ k.links) (k.content content has).ahead
+      written_kept old new path tree id content w (keeps_rests (mini_of old) (mini_of new) k.rests.mini) k.rests.letters k.rests.sound k.held (λ _. alike_same _ _ k.links) (k.content content has).ahead
 
   -- what is kept of it in the file is kept of the stream
   still_so : (old new : Stream F g) (path : Path) (tree : Tree) (content : List ℕ) (s : ClosesToTree old path tree content) → (then : StreamIsWritten (file_under new) path tree (id_of old) content) × (then.at.means.who ≡ owners_under s)

@@ -15,8 +15,9 @@ use Rattle.cfb_stream_reads.specs.declared.ahead.ReadAhead.{ReadAhead}
 use Rattle.cfb_stream_reads.specs.Streams.{sectors_in, IsOfLevel, StreamLiesIn}
 use Rattle.cfb.specs.Putting.{IsOpenStreamError}
 use Rattle.cfb.specs.Streams.{bytes_found, FindsStream, FileHasStream, IsBroken, IsTrueToBytes, IsUnread, IsFileMemoryOrFailed, KeepsStream}
-use Rattle.cfb.specs.Views.{ahead_held, links_held, mini_of, most_ahead_of, OnlyReadsFile}
+use Rattle.cfb.specs.Views.{ahead_held, links_held, mini_of, most_ahead_of, stream_known, OnlyReadsFile}
 use Rattle.cfb.specs.declared.compound_file.CompoundFile.{CompoundFile}
+use Rattle.cfb.proofs.HeldLinks.{held_read}
 use Rattle.cfb.proofs.StreamBytes.{content_len}
 use Rattle.cfb.proofs.Wants.{want_is}
 
@@ -52,6 +53,7 @@ rests_twice a b c first second = record {
   validation = second.validation ∙ first.validation;
   sound = second.sound ∙ first.sound;
   most = second.most ∙ first.most;
+  held = λ are. second.held (first.held are);
 }
 
 -- the file over what a read left of the layer below, and of what was read ahead
@@ -63,8 +65,9 @@ pub keeps_by : {F : Type 0} {g : Ghosts F} (it : CompoundFile F g) (mini : MiniA
     → ((content : List ℕ) → lower.SectorsHaveContent (mini_of it) (links_held it) len content → lower.SectorsHaveContent mini (links_held it) len content)
     → ((content : List ℕ) → lower.SectorsHaveContent (mini_of it) (links_held it) len content → lower.IsAheadOf content (ahead_held it) → lower.IsAheadOf content ahead) → KeepsStream len it (read_by it mini ahead)
 keeps_by {F} {g} it mini ahead len rests most kept told = record {
-  rests = record { mini = rests; letters = refl; validation = refl; sound = refl; most = most };
+  rests = record { mini = rests; letters = refl; validation = refl; sound = refl; most = most; held = held_read (mini_of it) mini rests (stream_known it) (links_held it) };
   links = refl;
+  held = refl;
   content = λ content has. record { lies = kept content has.lies; ahead = told content has.lies has.ahead };
 }
 

@@ -33,9 +33,10 @@ use Rattle.cfb_stream_writes.proofs.Placed.{entry_of, found_at}
 use Rattle.cfb_stream_writes.proofs.Moved.{links_kept}
 use Rattle.cfb.specs.FollowedRules.{FileMeansTree}
 use Rattle.cfb.specs.Streams.{FileHasStream, IsFileMemoryOrFailed}
-use Rattle.cfb.specs.Views.{ahead_held, file_case_table, links_held, mini_of, sound_of}
+use Rattle.cfb.specs.Views.{ahead_held, file_case_table, links_held, mini_of, sound_of, stream_known}
 use Rattle.cfb.specs.Writing.{StreamIsWritten}
 use Rattle.cfb.specs.declared.compound_file.CompoundFile.{CompoundFile}
+use Rattle.cfb.proofs.HeldLinks.{held_written}
 use Rattle.cfb.proofs.Holding.{entries_hold}
 use Rattle.cfb.proofs.LiveMeaning.{holds_meant}
 use Rattle.cfb.proofs.StreamBytes.{bytes_held, content_len, lies_where}
@@ -119,7 +120,7 @@ module _ {F : Type 0} {g : Ghosts F} (it : MiniAllocator F g) (a b : CaseTable) 
 module _ {F : Type 0} {g : Ghosts F} (it : CompoundFile F g) (path : Path) (tree : Tree) (id : ℕ) (content : List ℕ) (w : StreamIsWritten it path tree id content) where
   -- the file means the tree
   pub means_written : FileMeansTree it tree
-  means_written = record { sound = w.sound; live = w.at.means }
+  means_written = record { sound = w.sound; live = w.at.means; held = held_written (mini_of it) id (stream_known it) (links_held it) w.held w.links }
 
   -- with the same owners
   pub owners_written : (m : FileMeansTree it tree) × (m.live.who ≡ w.at.means.who)
@@ -138,11 +139,11 @@ module _ {F : Type 0} {g : Ghosts F} (it : CompoundFile F g) (path : Path) (tree
 
 module _ {F : Type 0} {g : Ghosts F} (old new : CompoundFile F g) (path : Path) (tree : Tree) (id : ℕ) (content : List ℕ) (w : StreamIsWritten old path tree id content) where
   -- LAW: a stream stays where each owner has what it had
-  pub written_kept : KeepsOwnership (mini_of old) (mini_of new) → file_case_table new ≡ file_case_table old → sound_of new ≡ sound_of old
+  pub written_kept : KeepsOwnership (mini_of old) (mini_of new) → file_case_table new ≡ file_case_table old → sound_of new ≡ sound_of old → stream_known new ≡ stream_known old
       → (has_failed_here (allocator_of (mini_of new)) ≡ false → AreAlike (links_held old) (links_held new))
       → lower.IsAheadOf content (ahead_held new) → (then : StreamIsWritten new path tree id content) × (then.at.means.who ≡ w.at.means.who)
   unfolding means_as
-  written_kept k letters sound links ahead = (
+  written_kept k letters sound known links ahead = (
     record {
       sound = sound ∙ w.sound;
       at = record {
@@ -154,22 +155,24 @@ module _ {F : Type 0} {g : Ghosts F} (old new : CompoundFile F g) (path : Path) 
       };
       links = links_alike (mini_of new) id (links_held old) (links_held new) (links (k.allocator.sectors.failed ∙ w.at.means.live))
           (links_kept (mini_of old) (mini_of new) k w.at.means.who.sectors w.at.means.owners id (links_held old) w.links);
+      held = λ other is. w.held other (sym known ∙ is);
       ahead = ahead;
     },
     stays_owned (mini_of old) (mini_of new) k (file_case_table old) tree w.at.means,
   )
 
   -- LAW: one that was rewritten has its new bytes, and there are no more strays
-  pub written_so : (change : List ℕ → List ℕ) → RewritesIn id change (links_held old) (links_held new) (mini_of old) (mini_of new) → file_case_table new ≡ file_case_table old → sound_of new ≡ sound_of old
+  pub written_so : (change : List ℕ → List ℕ) → RewritesIn id change (links_held old) (links_held new) (mini_of old) (mini_of new) → file_case_table new ≡ file_case_table old → sound_of new ≡ sound_of old → stream_known new ≡ stream_known old
       → lower.ahead_of (ahead_held new) ≡ [] → (then : StreamIsWritten new path (changed (file_case_table old) (with_bytes (change content)) path tree) id (change content)) × StaysTidy (mini_of old) (mini_of new) w.at.means.who then.at.means.who
   unfolding stream_as means_as
-  written_so change did letters sound none =
+  written_so change did letters sound known none =
       let it = did (file_case_table old) tree path content w.at w.links in
       let later = changed (file_case_table old) (with_bytes (change content)) path tree in (
         record {
           sound = sound ∙ w.sound;
           at = stream_as (mini_of new) (file_case_table old) (file_case_table new) letters later path id (change content) it.0;
           links = it.1;
+          held = λ other is. w.held other (sym known ∙ is);
           ahead = none_ahead (ahead_held new) (change content) none;
         },
         it.2,

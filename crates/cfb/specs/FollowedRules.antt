@@ -17,20 +17,23 @@ use Rattle.cfb_mini.specs.Views.{allocator_of, directory_of}
 use Rattle.cfb_ownership.specs.Owners.{Owners}
 use Rattle.cfb_tree.specs.Paths.{Path}
 use Rattle.cfb_tree.specs.Tree.{Tree}
-use Rattle.cfb.specs.Views.{file_case_table, mini_of, most_ahead_of, sound_of, validation_of}
+use Rattle.cfb.specs.Views.{file_case_table, mini_of, most_ahead_of, sound_of, validation_of, HoldsLinks}
 use Rattle.cfb.specs.declared.compound_file.CompoundFile.{CompoundFile}
 
 module _ {F : Type 0} {g : Ghosts F} where
-  -- THE FILE MEANS THE TREE: it is sound, nothing has failed, memory is that of the bytes, and these mean the tree ([MS-CFB] 2)
+  -- THE FILE MEANS THE TREE: it is sound, nothing has failed, memory is that of the bytes, and these mean the tree; links that are known
+  -- to be a stream's are so ([MS-CFB] 2)
   pub record FileMeansTree (it : CompoundFile F g) (tree : Tree) : Type 0 where
     pub sound : sound_of it ≡ true
     pub live : live.LiveFileMeansTree (file_case_table it) (mini_of it) tree
+    pub held : HoldsLinks it
 
   -- the call left file and memory as they were
   pub record FileKeeps (old new : CompoundFile F g) : Type 0 where
     pub mini : KeepsOwnership (mini_of old) (mini_of new)
     pub letters : file_case_table new ≡ file_case_table old
     pub sound : sound_of new ≡ sound_of old
+    pub held : HoldsLinks old → HoldsLinks new
 
   -- what a strict reader asks of the file beside its tree: the header counts the sectors of all tables, file and DIFAT end as they
   -- must, the root has its name, and colours are right ([MS-CFB] 2.2 to 2.6)

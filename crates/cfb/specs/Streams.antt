@@ -18,7 +18,7 @@ use Rattle.cfb_stream_reads.specs.Streams.{joined_in, sectors_in, IsOfLevel, Str
 use Rattle.cfb_tree.specs.Directory.{kind_stream, Entry}
 use Rattle.cfb_tree.specs.Paths.{Path}
 use Rattle.cfb_tree.specs.Tree.{Tree}
-use Rattle.cfb.specs.Views.{ahead_held, file_case_table, links_held, mini_of, OnlyReadsFile}
+use Rattle.cfb.specs.Views.{ahead_held, file_case_table, links_held, mini_of, stream_known, OnlyReadsFile}
 use Rattle.cfb.specs.declared.compound_file.CompoundFile.{CompoundFile}
 use Rattle.cfb.specs.declared.stream.ReadStream.{ReadStream}
 
@@ -46,6 +46,7 @@ module _ {F : Type 0} {g : Ghosts F} where
   pub record KeepsStream (len : ℕ) (old new : CompoundFile F g) : Type 0 where
     pub rests : OnlyReadsFile old new
     pub links : links_held new ≡ links_held old
+    pub held : stream_known new ≡ stream_known old
     pub content : (content : List ℕ) → FileHasStream old len content → FileHasStream new len content
 
   -- the stream has these bytes

@@ -11,6 +11,8 @@ use Rattle.cfb_sectors.specs.declared.validation.Validation.{Validation}
 use Rattle.cfb_stream_reads.specs.Content.{most_of}
 use Rattle.cfb_stream_reads.specs.declared.ahead.ReadAhead.{ReadAhead}
 use Rattle.cfb_stream_reads.specs.declared.opening.StreamLinks.{StreamLinks}
+use Rattle.cfb_stream_reads.specs.declared.opening.StreamLinks.TheVariants.{Long, Short}
+use Rattle.cfb_stream_writes.specs.Streams.{AreLinksOf}
 use Rattle.cfb_tree.specs.CaseTableViews as letter
 use Rattle.cfb_tree.specs.Names.{CaseTable}
 use Rattle.cfb_tree.specs.Paths.{Path}
@@ -54,14 +56,29 @@ module _ {F : Type 0} {g : Ghosts F} where
   abbrev pub ahead_held : CompoundFile F g → ReadAhead
   ahead_held it = it.ahead
 
+  -- the entry whose stream they are known to be of
+  abbrev pub stream_known : CompoundFile F g → Option ℕ
+  stream_known it = it.stream_id
+
+  -- links that are known to be of an entry's stream are so; of mini sectors nothing is said
+  abbrev pub AreHeldFor : Option ℕ → StreamLinks → MiniAllocator F g → Type 0
+  AreHeldFor None links it = Unit {0}
+  AreHeldFor (Some id) (Short minis) it = Unit {0}
+  AreHeldFor (Some id) (Long links) it = AreLinksOf id (Long links) it
+
+  abbrev pub HoldsLinks : CompoundFile F g → Type 0
+  HoldsLinks it = AreHeldFor (stream_known it) (links_held it) (mini_of it)
+
   -- so many bytes of a stream it reads ahead at most
   abbrev pub most_ahead_of : CompoundFile F g → ℕ
   most_ahead_of it = most_of (ahead_held it)
 
-  -- it was only read: of its layers, case table, reader and soundness all is as it was, and how many bytes it reads ahead
+  -- it was only read: of its layers, case table, reader and soundness all is as it was, and how many bytes it reads ahead; links that are
+  -- known to be a stream's are so still
   pub record OnlyReadsFile (old new : CompoundFile F g) : Type 0 where
     pub mini : mini.OnlyReadsMini (mini_of old) (mini_of new)
     pub letters : file_case_table new ≡ file_case_table old
     pub validation : validation_of new ≡ validation_of old
     pub sound : sound_of new ≡ sound_of old
     pub most : most_ahead_of new ≡ most_ahead_of old
+    pub held : HoldsLinks old → HoldsLinks new

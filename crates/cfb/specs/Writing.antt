@@ -19,7 +19,7 @@ use Rattle.cfb_tree.specs.Paths.{Path}
 use Rattle.cfb_tree.specs.Tree.{Tree}
 use Rattle.cfb_stream_writes.specs.Streams as written
 use Rattle.cfb.specs.Streams.{KeepsStream}
-use Rattle.cfb.specs.Views.{ahead_held, file_case_table, links_held, mini_of, most_ahead_of, sound_of, validation_of}
+use Rattle.cfb.specs.Views.{ahead_held, file_case_table, links_held, mini_of, most_ahead_of, sound_of, stream_known, validation_of}
 use Rattle.cfb.specs.declared.compound_file.CompoundFile.{CompoundFile}
 use Rattle.cfb.specs.declared.written_stream.Stream.{Stream}
 
@@ -29,6 +29,7 @@ module _ {F : Type 0} {g : Ghosts F} where
     pub sound : sound_of it ≡ true
     pub at : written.IsStreamAt (file_case_table it) (mini_of it) tree path id content
     pub links : written.AreLinksOf id (links_held it) (mini_of it)
+    pub held : (other : ℕ) → stream_known it ≡ Some other → other ≡ id
     pub ahead : IsAheadOf content (ahead_held it)
 
   -- who owns which sectors then

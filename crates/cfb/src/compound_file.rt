@@ -28,6 +28,8 @@ pub struct CompoundFile<F: ReadMedium> {
     pub(crate) validation: Validation,
     pub(crate) is_sound: bool,
     pub(crate) links: StreamLinks,
+    // The entry whose stream has these links yet, where nothing else was changed since they were found.
+    pub(crate) stream_id: Option<u32>,
     pub(crate) ahead: ReadAhead,
 }
 
@@ -54,6 +56,7 @@ impl<F: ReadMedium> CompoundFile<F> {
             validation: _,
             is_sound: _,
             links: _,
+            stream_id: _,
             ahead: _,
         } = self;
         mini.into_inner()

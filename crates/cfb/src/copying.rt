@@ -53,6 +53,7 @@ impl<F: ReadMedium> CompoundFile<F> {
         if !self.is_sound {
             return Err(Error::InvalidData);
         }
+        self.stream_id = None;
         let bytes = match copy_of(self.alloc, &mut self.mini) {
             Ok(bytes) => bytes,
             Err(error) => return Err(error),

@@ -43,6 +43,7 @@ impl<F: Medium> CompoundFile<F> {
         if !self.is_sound {
             return Err(Error::InvalidData);
         }
+        self.stream_id = None;
         create_stream(self.alloc, &mut self.mini, &self.letters, path)
     }
 }

@@ -33,6 +33,7 @@ impl<F: Medium> CompoundFile<F> {
         if !self.is_sound {
             return Err(Error::InvalidData);
         }
+        self.stream_id = None;
         cfb_tree_edits::set_fact(self.alloc, &mut self.mini, &self.letters, path, fact)
     }
 

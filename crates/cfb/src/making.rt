@@ -39,6 +39,7 @@ impl<F: Medium> CompoundFile<F> {
         if !self.is_sound {
             return Err(Error::InvalidData);
         }
+        self.stream_id = None;
         make_object(self.alloc, &mut self.mini, &self.letters, path, object)
     }
 
@@ -104,6 +105,7 @@ impl<F: Medium> CompoundFile<F> {
         if !self.is_sound() {
             return Err(Error::InvalidData);
         }
+        self.stream_id = None;
         cfb_tree_edits::create_storage_all(self.alloc, &mut self.mini, &self.letters, path, moment)
     }
 }

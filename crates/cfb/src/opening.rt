@@ -125,6 +125,7 @@ pub(crate) fn open_by<F: ReadMedium>(
         validation,
         is_sound,
         links: StreamLinks::Short(MiniLinks::new(alloc)),
+        stream_id: None,
         ahead,
     })
 }

@@ -29,10 +29,9 @@ impl<F: Medium> CompoundFile<F> {
             return Err(Error::Failed);
         }
         if self.is_sound {
-            self.mini.flush()
-        } else {
-            Ok(())
+            return self.mini.flush();
         }
+        Ok(())
     }
 
     /// Publishes the bytes, by a commit of the medium: after `Ok` a crash leaves these alone, and the file means what it meant. A
@@ -70,6 +69,7 @@ impl<F: Medium> CompoundFile<F> {
         if !self.is_sound {
             return Ok(());
         }
+        self.stream_id = None;
         self.mini.commit()
     }
 }

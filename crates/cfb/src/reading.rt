@@ -37,8 +37,9 @@ impl<F: ReadMedium> CompoundFile<F> {
         Ok(())
     }
 
-    // Finds the sectors of the stream at a path, and gives how many bytes it has. Nothing is read ahead of it yet.
-    fn find_stream(&mut self, path: &str) -> Result<u64, Error>
+    /// Finds the sectors of the stream at a path, from which `read_bytes` reads it then, and gives how many bytes it has. Errors are those of
+    /// `open_read_stream`. The file is only read.
+    pub fn find_stream(&mut self, path: &str) -> Result<u64, Error>
         ensures only_reads { OnlyReadsFile self.old self.new }
         ensures small { IfOk result (λ len. len < 2 ^ 63) }
         ensures answer { (tree : Tree) → FileShowsTree self.old tree
@@ -69,6 +70,7 @@ impl<F: ReadMedium> CompoundFile<F> {
             Err(error) => return Err(error),
         };
         self.links = links;
+        self.stream_id = None;
         self.ahead.clear();
         Ok(size)
     }
@@ -137,9 +139,10 @@ impl<F: ReadMedium> CompoundFile<F> {
         }
     }
 
-    // Fills the buffer with bytes of the stream of so many bytes that is read, from a place on. A small one is served from what
-    // was read ahead.
-    pub(crate) fn read_bytes(&mut self, at: u64, len: u64, buffer: &mut [u8]) -> Result<(), Error>
+    /// Fills the buffer with bytes of the stream of so many bytes whose sectors were found last, from a place on. `InvalidData` or
+    /// `InvalidInput` where the file hasn't the bytes; the other errors are faults. A small one is served from what was read ahead. The
+    /// file is only read, and reads the same stream then.
+    pub fn read_bytes(&mut self, at: u64, len: u64, buffer: &mut [u8]) -> Result<(), Error>
         requires { at + length buffer.old ≤ len }
         ensures part { (content : List ℕ) → FileHasStream self.old len content
             → ReadsPart content at buffer.old buffer.new result }

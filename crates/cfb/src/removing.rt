@@ -39,6 +39,7 @@ impl<F: Medium> CompoundFile<F> {
         if !self.is_sound {
             return Err(Error::InvalidData);
         }
+        self.stream_id = None;
         cfb_tree_edits::remove_stream(self.alloc, &mut self.mini, &self.letters, path)
     }
 
@@ -60,6 +61,7 @@ impl<F: Medium> CompoundFile<F> {
         if !self.is_sound {
             return Err(Error::InvalidData);
         }
+        self.stream_id = None;
         cfb_tree_edits::remove_storage(self.alloc, &mut self.mini, &self.letters, path)
     }
 
@@ -82,6 +84,7 @@ impl<F: Medium> CompoundFile<F> {
         if !self.is_sound {
             return Err(Error::InvalidData);
         }
+        self.stream_id = None;
         cfb_tree_edits::remove_storage_all(self.alloc, &mut self.mini, &self.letters, path)
     }
 }

@@ -35,6 +35,7 @@ fn husk_of<F: Medium>(alloc: Global, medium: F, mini: MiniHusk, reader: Reader) 
         validation,
         is_sound: false,
         links: StreamLinks::Short(MiniLinks::new(alloc)),
+        stream_id: None,
         ahead,
     }
 }
@@ -67,6 +68,7 @@ impl<F: Medium> CompoundFile<F> {
             validation: own,
             is_sound,
             links,
+            stream_id: _,
             mut ahead,
         } = self;
         let (medium, husk) = match mini.roll_back() {
@@ -79,6 +81,7 @@ impl<F: Medium> CompoundFile<F> {
                     validation: own,
                     is_sound,
                     links,
+                    stream_id: None,
                     ahead,
                 };
                 return (same, Err(error));

@@ -2,7 +2,7 @@
 ghost use Rattle.cfb.specs.FollowedRules.{FileMeansTree};
 ghost use Rattle.cfb.specs.Putting.{IsOpenStreamError};
 ghost use Rattle.cfb.specs.Streams.{IsFileMemoryOrFailed, KeepsStream};
-ghost use Rattle.cfb.specs.Views.{file_case_table, mini_of, most_ahead_of, sound_of, validation_of, OnlyReadsFile};
+ghost use Rattle.cfb.specs.Views.{file_case_table, mini_of, links_held, most_ahead_of, sound_of, stream_known, validation_of, HoldsLinks, OnlyReadsFile};
 ghost use Rattle.cfb.specs.Writing.{file_under, place_of, FindsWritten, IsLostAt, StreamIsWritten, KeepsAt, LacksRoomAt, Opens, RewritesAt};
 ghost use Rattle.cfb.specs.contracts.compound_file.CompoundFile.{the_row};
 ghost use Rattle.cfb_chains.specs.ChainCalls.{IsInvalidPlace};
@@ -18,18 +18,33 @@ ghost use Rattle.cfb_mini.specs.Views.{allocator_of};
 ghost use Rattle.cfb_chain_io.specs.ChainEffects.{KeepsFileInvariants, IsInvalidPlaceOrFull};
 ghost use Rattle.cfb_tree.specs.Paths.{Path};
 ghost use Rattle.cfb_tree.specs.Tree.{Tree};
-ghost use Rattle.cfb_stream_writes.specs.Streams.{resized, IsPastNumbers};
+ghost use Rattle.cfb_stream_writes.specs.Streams.{resized, AreLinksOf, IsPastNumbers};
 ghost use Rattle.std.specs.Borrow.{sem, RestsIfErr};
-ghost use Rattle.std.specs.Prelude.{false, length, true, IfErr, IfOk, IsErrOf, List, OnErr, OnOk, ℕ, ◌+◌, ◌<◌, ◌^◌, ◌≡◌, ◌⊎◌};
+ghost use Rattle.std.specs.Prelude.{false, length, true, IfErr, IfOk, IsErrOf, IsTrue, List, OnErr, OnOk, Some, ℕ, ◌+◌, ◌<◌, ◌^◌, ◌≡◌, ◌⊎◌};
 
 use crate::{CompoundFile, Stream};
 use cfb_medium::{Error, Medium, ReadMedium};
-use cfb_stream_reads::open_stream as find_sectors;
+use cfb_stream_reads::{StreamLinks, open_stream as find_sectors};
 use cfb_stream_writes::{
     can_outgrow, find_stream, outgrow_stream, overwrite_stream, resize_stream,
 };
 
 impl<F: ReadMedium> CompoundFile<F> {
+    // Whether its links are those of the stream of this entry, which has so many bytes: 4096 or more, where it was the last one that
+    // was found, and nothing was changed since but through it.
+    fn holds(&self, id: u32, size: u64) -> bool
+        ensures links { IsTrue result → HoldsLinks self.now
+            → AreLinksOf id (links_held self.now) (mini_of self.now) }
+        ensures one { IsTrue result → (other : ℕ) → stream_known self.now ≡ Some other → other ≡ id }
+        ensures small { IsTrue result → size < 2 ^ 63 }
+    {
+        let (StreamLinks::Long(links), Some(stream_id)) = (&self.links, self.stream_id) else {
+            return false;
+        };
+        let room = links.sector_ids().len() as u64 * links.version().sector_len() as u64;
+        stream_id == id && size <= room
+    }
+
     // Finds the entry and the sectors of the stream at a path, and gives the entry's number and how many bytes the stream has.
     // Nothing is read ahead of it yet.
     pub(crate) fn find_written(&mut self, path: &str) -> Result<(u32, u64), Error>
@@ -59,12 +74,17 @@ impl<F: ReadMedium> CompoundFile<F> {
             Err(error) => return Err(error),
         };
         let entry = self.mini.directory().dir_entry(id);
-        let size = entry.stream_len;
-        let links = match find_sectors(&self.mini, entry.start_sector, size) {
+        let (start, size) = (entry.start_sector, entry.stream_len);
+        if self.holds(id, size) {
+            self.ahead.clear();
+            return Ok((id, size));
+        }
+        let links = match find_sectors(&self.mini, start, size) {
             Ok(links) => links,
             Err(error) => return Err(error),
         };
         self.links = links;
+        self.stream_id = Some(id);
         self.ahead.clear();
         Ok((id, size))
     }

@@ -1,5 +1,5 @@
 pub mod Edited
-pub mod Gapped
+pub mod Blocked
 pub mod Marking
 pub mod RunStarts
 pub mod Splicing

@@ -8,7 +8,7 @@ use Rattle.std.proofs.lemmas.List.{take_all}
 use Rattle.std.proofs.lemmas.List.FromFn.{get_or-range_with_len, length-range_with_len}
 use Rattle.std.proofs.lemmas.List.Sums.{count_by_more_no, count_by_more_yes}
 use Rattle.cfb_sectors.specs.Sectors.{end_of_chain, greatest_regular}
-use Rattle.cfb_fat_runs.specs.Gaps.{all_runs}
+use Rattle.cfb_fat_runs.specs.RunLists.{all_runs}
 use Rattle.cfb_fat_runs.specs.Longest.{begins_run, goes_on, is_of_chain, runs_in}
 use Rattle.cfb_fat_runs.specs.Runs.{entry_in, leading_to, start_of, IsRight}
 use Rattle.cfb_fat_runs.specs.Tables.{entries_of}

@@ -1,7 +1,9 @@
+pub mod BlockLen
+pub mod Blocks
 pub mod Freeing
-pub mod Gaps
 pub mod Longest
 pub mod Props
+pub mod RunLists
 pub mod Runs
 pub mod Tables
 pub mod Walking

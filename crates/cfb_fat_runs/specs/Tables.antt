@@ -2,7 +2,7 @@
 use Rattle.std.specs.Prelude.{◌≡◌, ℕ, ◌≤◌, List, length, map, slice_index}
 use Rattle.std.specs.List.{range_with_len}
 use Rattle.cfb_sectors.specs.Sectors.{end_of_chain, greatest_regular}
-use Rattle.cfb_fat_runs.specs.Gaps.{room_for_runs, all_runs}
+use Rattle.cfb_fat_runs.specs.RunLists.{room_for_runs, all_runs}
 use Rattle.cfb_fat_runs.specs.Runs.{entry_at}
 use Rattle.cfb_fat_runs.specs.declared.table.Table.{Table}
 

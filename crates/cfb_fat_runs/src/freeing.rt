@@ -1,6 +1,6 @@
 //! Sectors that are freed, a stretch of consecutive ones at a time ([MS-CFB] 2.3).
 ghost use Rattle.cfb_fat_runs.specs.Freeing.{stretches, FreesFatEntries, FreesFrom};
-ghost use Rattle.cfb_fat_runs.specs.Gaps.{all_runs};
+ghost use Rattle.cfb_fat_runs.specs.RunLists.{all_runs};
 ghost use Rattle.cfb_fat_runs.specs.Runs.{start_of};
 ghost use Rattle.cfb_fat_runs.specs.declared.runs.Run.{Run as IsRun};
 ghost use Rattle.std.specs.Prelude.{drop, length, slice_index, slice_index_or, ℕ, ◌*◌, ◌+◌, ◌<◌, ◌≡◌, ◌≤◌, ◌⊎◌};

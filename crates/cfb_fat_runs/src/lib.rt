@@ -1,8 +1,9 @@
 //! A table of sectors in memory, as runs: consecutive sectors with one kind of entry ([MS-CFB] 2.3).
 #![tactic(auto)]
 
+mod blocks;
 mod freeing;
-mod gaps;
+mod run_list;
 mod runs;
 mod table;
 mod telling;

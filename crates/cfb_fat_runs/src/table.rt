@@ -1,6 +1,6 @@
 //! The table, and what is asked of it.
 ghost use Rattle.cfb_fat_runs.specs.Props.{are_tiled_prop};
-ghost use Rattle.cfb_fat_runs.specs.Gaps.{all_runs};
+ghost use Rattle.cfb_fat_runs.specs.RunLists.{all_runs};
 ghost use Rattle.cfb_fat_runs.specs.Runs.{entry_in, head_of, start_of, tail_of, AreTiled, IsLink};
 ghost use Rattle.cfb_fat_runs.specs.declared.runs.Run.{Run as IsRun};
 ghost use Rattle.cfb_medium.specs.declared.error.Error.TheVariants.{InvalidData, Memory};
@@ -8,7 +8,7 @@ ghost use Rattle.cfb_sectors.specs.Sectors.{end_of_chain, free, greatest_regular
 ghost use Rattle.std.specs.List.{count_by};
 ghost use Rattle.std.specs.Prelude.{drop, length, nat_eq, slice_get, false, slice_index, slice_index_or, slice_set, take, vec_len, IsTrue, IfErr, IfOk, IsErrOf, List, OnErr, OnOk, [], ℕ, ◌+◌, ◌++◌, ◌<◌, ◌^◌, ◌∷◌, ◌≡◌, ◌≤◌, ◌⊎◌};
 
-use crate::gaps::RunList;
+use crate::run_list::RunList;
 use crate::runs::{Kind, Run, is_link, kind_of, leading, leads_on};
 use cfb_medium::Error;
 use cfb_sectors::{END_OF_CHAIN, FREE_SECTOR, MAX_REGULAR_SECTOR};

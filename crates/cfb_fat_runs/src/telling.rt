@@ -1,6 +1,6 @@
 //! What is told of a table's runs, joined wherever one leads on to the next ([MS-CFB] 2.3).
 ghost use Rattle.cfb_fat_runs.specs.Longest.{begins_run, goes_on, runs_in, IsRunOf};
-ghost use Rattle.cfb_fat_runs.specs.Gaps.{all_runs};
+ghost use Rattle.cfb_fat_runs.specs.RunLists.{all_runs};
 ghost use Rattle.cfb_fat_runs.specs.Runs.{start_of};
 ghost use Rattle.std.specs.List.{count_by, range_with_len};
 ghost use Rattle.std.specs.Prelude.{drop, false, length, not, take, true, MatchOption, IsTrue, ℕ, ◌+◌, ◌-◌, ◌<◌, ◌≡◌, ◌≤◌};

@@ -1,6 +1,6 @@
 //! Walks over runs: chains, and sectors that are free ([MS-CFB] 2.3).
 ghost use Rattle.cfb_medium.specs.declared.error.Error.TheVariants.{InvalidData, Memory};
-ghost use Rattle.cfb_fat_runs.specs.Gaps.{all_runs};
+ghost use Rattle.cfb_fat_runs.specs.RunLists.{all_runs};
 ghost use Rattle.cfb_fat_runs.specs.Runs.{start_of};
 ghost use Rattle.cfb_sectors.specs.Sectors.{free, greatest_regular, Chain as IsChain};
 ghost use Rattle.std.specs.List.{count_by, range_with_len};

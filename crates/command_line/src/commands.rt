@@ -10,13 +10,14 @@ ghost use Rattle.std.specs.Prelude.{◌≡◌, ◌⊎◌, ◌++◌, [], IfOk, Li
 use crate::failures::failure_of;
 use crate::files;
 use crate::progress::Progress;
-use crate::reasons::{known_tables, tell_reason};
+use crate::reasons::{Before, known_before, tell_reason};
 use crate::sessions::run_commands;
+use crate::unfit::{Kept, KnownPages};
 use cfb_medium::Error;
 use command_reasons::KnownTables;
 use installer::{Answer, Command, answer_text};
 use installer_runs::{Ending as Ended, Listener, Tally, Until, is_fault};
-use package_checks::tell_twice;
+use package_checks::{tell_twice, tell_unsound};
 use package_files::{Failure, Faults, Found, Names, Trouble, cut_log, look_at_log};
 use package_reading::{is_signed_at, is_sound_at, why_refused};
 use serde_json::Value as Json;
@@ -44,6 +45,19 @@ pub(crate) struct Manner {
     pub is_quiet: bool,
     /// Whether the commands are the program's own, made of one word: then none of them is spoken of.
     pub is_own: bool,
+    /// Whether the last command is a commit of the program's own, behind those of a file.
+    pub commits_at_end: bool,
+}
+
+impl Manner {
+    /// How many of the commands are spoken of.
+    pub(crate) fn count_of(self, commands: &[Command]) -> usize {
+        if self.commits_at_end {
+            commands.len().saturating_sub(1)
+        } else {
+            commands.len()
+        }
+    }
 }
 
 /// Runs commands on the package of two files, prints their answers, and shows how far it has come. The log is made by the first commit.
@@ -60,14 +74,15 @@ pub(crate) fn run<R: Files<File = File> + AllocGlobal + Clock, O: Write, E: Writ
     ensures { IfOk result (HasRun (map request_of commands.now)) }
 {
     let found = files::look_to_commit(rt, names)?;
-    let mut known = known_before(rt, names, manner);
+    let mut before = before_run(rt, names, manner);
     let faults = Faults::new();
     let device = files::open(rt, names, &faults)?;
     let mut answers = Answers::new(
         rt.alloc(),
         names.named(),
         commands,
-        &mut known,
+        manner,
+        &mut before,
         out,
         progress,
     );
@@ -81,10 +96,10 @@ pub(crate) fn run<R: Files<File = File> + AllocGlobal + Clock, O: Write, E: Writ
     }
     let (ending, heard, done) = (answers.ending(ended), answers.heard, answers.done);
     if ended == Ended::Stopped && !manner.is_own {
-        tell_stopped(names, done, commands.len(), progress.err());
+        tell_stopped(names, done, manner.count_of(commands), progress.err());
     }
     if !manner.is_quiet {
-        tell_notes(rt, names, heard, !manner.is_own, progress.err());
+        tell_notes(rt, names, heard, manner, progress.err());
     }
     match ending {
         Ok(ending) => Ok(ending),
@@ -92,21 +107,28 @@ pub(crate) fn run<R: Files<File = File> + AllocGlobal + Clock, O: Write, E: Writ
     }
 }
 
-// The tables that reasons are found from; none where no reason is told.
-fn known_before<R: Files<File = File> + AllocGlobal>(
+// What reasons are found from; nothing where none is told.
+fn before_run<R: Files<File = File> + AllocGlobal>(
     rt: &R,
     names: &Names,
     manner: Manner,
-) -> Option<KnownTables> {
-    if manner.is_quiet || manner.is_own {
-        return None;
+) -> Before {
+    if manner.is_quiet {
+        return Before::nothing();
     }
-    known_tables(rt, names)
+    known_before(rt, names, !manner.is_own)
 }
 
 // Tells that no command was run behind one that was refused.
 fn tell_stopped<E: Write>(names: &Names, done: usize, total: usize, err: &mut E) {
     let named = names.named();
+    if done > total {
+        let _ = writeln!(
+            err,
+            "msidb: {named}: nothing is committed: the commit at the end was refused"
+        );
+        return;
+    }
     let _ = writeln!(
         err,
         "msidb: {named}: stopped behind command {done} of {total}, which was refused"
@@ -120,8 +142,8 @@ fn has_commit(commands: &[Command]) -> bool {
         .any(|command| matches!(command, Command::Commit))
 }
 
-// Why no session was opened on two files: a refusal by rule is one of the log, whose commit then stays open, or of the package.
-fn why_no_session<R: Files<File = File> + AllocGlobal>(
+/// Why no session was opened on two files: a refusal by rule is one of the log, whose commit then stays open, or of the package.
+pub(crate) fn why_no_session<R: Files<File = File> + AllocGlobal>(
     rt: &R,
     names: &Names,
     error: Error,
@@ -144,8 +166,10 @@ struct Heard {
     has_committed: bool,
     // A change was refused as `InvalidData`, as each of a package that isn't sound.
     has_invalid: bool,
-    // A table wasn't made since there is no `_Validation`.
+    // A table wasn't made or dropped since there is no `_Validation`.
     lacks_validation: bool,
+    // The changes weren't committed, since the commit was refused.
+    is_commit_refused: bool,
 }
 
 impl Heard {
@@ -154,9 +178,10 @@ impl Heard {
         match (command, answer) {
             (Command::Commit, Answer::Done) => {
                 self.has_committed = self.has_committed || self.changes > 0;
-                self.changes = 0;
+                self.go_on();
             }
-            (Command::RollBack, Answer::Done) => self.changes = 0,
+            (Command::Commit, Answer::Refused(_)) => self.is_commit_refused = true,
+            (Command::RollBack, Answer::Done) => self.go_on(),
             (Command::CreateTable(_, _), Answer::Refused(Error::NotFound)) => {
                 self.lacks_validation = true;
             }
@@ -168,6 +193,12 @@ impl Heard {
             }
             _ => {}
         }
+    }
+
+    // No change stands behind the last commit.
+    fn go_on(&mut self) {
+        self.changes = 0;
+        self.is_commit_refused = false;
     }
 }
 
@@ -193,15 +224,12 @@ fn tell_notes<R: Files<File = File> + AllocGlobal, E: Write>(
     rt: &R,
     names: &Names,
     heard: Heard,
-    tells_changes: bool,
+    manner: Manner,
     err: &mut E,
 ) {
     let named = names.named();
     if heard.has_invalid && matches!(is_sound_at(rt, names), Ok(false)) {
-        let _ = writeln!(
-            err,
-            "msidb: {named}: the package isn't sound, so it isn't changed; `msidb check {named}` tells why, `msidb adopt NEW {named}` may make a copy that can be changed, `msidb adopt --in-place {named}` may put it right where it lies"
-        );
+        tell_unsound(rt, names, err);
     }
     if heard.lacks_validation {
         let _ = writeln!(
@@ -209,19 +237,36 @@ fn tell_notes<R: Files<File = File> + AllocGlobal, E: Write>(
             "msidb: {named}: tables are made and dropped only where there is a table _Validation; `msidb adopt --validation` makes a copy that has one"
         );
     }
-    if heard.changes > 0 && tells_changes {
-        let count = heard.changes;
-        let noun = if count == 1 { "change" } else { "changes" };
-        let verb = if count == 1 { "is" } else { "are" };
-        let _ = writeln!(
-            err,
-            "msidb: {named}: {count} {noun} behind the last commit {verb} gone; the command `{{\"op\":\"commit\"}}` keeps what was done before it"
-        );
+    if heard.changes > 0 && !manner.is_own {
+        tell_gone(named, heard, manner, err);
     }
     if heard.has_committed {
         tell_signature(rt, names, err);
         tell_twice(rt, names, err);
     }
+}
+
+// Tells that changes weren't committed.
+fn tell_gone<E: Write>(named: &str, heard: Heard, manner: Manner, err: &mut E) {
+    let count = heard.changes;
+    let noun = if count == 1 { "change" } else { "changes" };
+    let verb = if count == 1 { "is" } else { "are" };
+    let _ = if manner.commits_at_end {
+        writeln!(
+            err,
+            "msidb: {named}: {count} {noun} {verb} gone: with --all-or-nothing none is kept where a command is refused"
+        )
+    } else if heard.is_commit_refused {
+        writeln!(
+            err,
+            "msidb: {named}: {count} {noun} behind the last commit that was done {verb} gone"
+        )
+    } else {
+        writeln!(
+            err,
+            "msidb: {named}: {count} {noun} behind the last commit {verb} gone; the command `{{\"op\":\"commit\"}}` keeps what was done before it"
+        )
+    };
 }
 
 /// Tells of a package that was changed that it has a signature.
@@ -245,8 +290,10 @@ struct Answers<'a, 'b, O, R, E> {
     alloc: Global,
     named: &'a str,
     commands: &'a [Command],
-    // The tables that are there; none where no reason is told.
+    manner: Manner,
+    // The tables that are there, and their code pages; none where no reason is told.
     known: &'a mut Option<KnownTables>,
+    pages: Option<KnownPages>,
     done: usize,
     heard: Heard,
     out: &'a mut O,
@@ -274,20 +321,14 @@ impl<'a, 'b, O: Write, R: Clock, E: Write> Listener for Answers<'a, 'b, O, R, E>
 
     // Tells which texts keep a commit back.
     fn keep_back(&mut self, texts: &[String]) {
-        let named = self.named;
-        let _ = write!(
-            self.progress.err(),
-            "msidb: {named}: not committed, since its code page lacks a character of"
-        );
-        for text in texts {
-            if let Ok(quoted) = quoted(self.alloc, text) {
-                let _ = write!(self.progress.err(), " {quoted}");
-            }
-        }
-        let _ = writeln!(
-            self.progress.err(),
-            "; the command `{{\"op\":\"set_codepage\",\"id\":65001}}` takes all texts of tables, and `{{\"op\":\"set_summary\",\"field\":\"codepage\",\"value\":65001}}` those of the summary"
-        );
+        let kept = Kept {
+            named: self.named,
+            pages: self.pages,
+            before: self.commands_before(),
+            number: self.number_of_commit(),
+            is_own: self.manner.is_own,
+        };
+        kept.tell(texts, self.progress.err());
     }
 }
 
@@ -301,7 +342,8 @@ impl<'a, 'b, O: Write, R: Clock, E: Write> Answers<'a, 'b, O, R, E> {
         alloc: Global,
         named: &'a str,
         commands: &'a [Command],
-        known: &'a mut Option<KnownTables>,
+        manner: Manner,
+        before: &'a mut Before,
         out: &'a mut O,
         progress: &'a mut Progress<'b, R, E>,
     ) -> Self
@@ -311,7 +353,9 @@ impl<'a, 'b, O: Write, R: Clock, E: Write> Answers<'a, 'b, O, R, E> {
             alloc,
             named,
             commands,
-            known,
+            manner,
+            pages: before.pages,
+            known: &mut before.tables,
             done: 0,
             heard: Heard::default(),
             out,
@@ -328,6 +372,8 @@ impl<'a, 'b, O: Write, R: Clock, E: Write> Answers<'a, 'b, O, R, E> {
     {
         if let Some(command) = self.commands.get(self.done) {
             self.heard.note(command, answer);
+            self.note_pages(command, answer);
+            self.note_undropped(command, answer);
             self.explain(command, answer);
         }
         if self.before_refusal.is_none() && is_by_rule(answer) {
@@ -335,6 +381,51 @@ impl<'a, 'b, O: Write, R: Clock, E: Write> Answers<'a, 'b, O, R, E> {
         }
         self.done = self.done.saturating_add(1);
         self.print(answer);
+    }
+
+    // The commands that were answered.
+    fn commands_before(&self) -> &'a [Command] {
+        match self.commands.get(..self.done) {
+            Some(commands) => commands,
+            None => &[],
+        }
+    }
+
+    // The number of the next command, where a file has it.
+    fn number_of_commit(&self) -> Option<usize> {
+        let number = self.done.saturating_add(1);
+        if self.manner.is_own || number > self.manner.count_of(self.commands) {
+            return None;
+        }
+        Some(number)
+    }
+
+    // Takes in what a command has made of the code pages.
+    fn note_pages(&mut self, command: &Command, answer: &Answer)
+        ensures { self.new.tally ≡ self.old.tally }
+    {
+        if !matches!(answer, Answer::Done) {
+            return;
+        }
+        if let Some(pages) = &mut self.pages {
+            pages.follow(command);
+        }
+    }
+
+    // Takes in that a table wasn't dropped since there is no `_Validation`.
+    fn note_undropped(&mut self, command: &Command, answer: &Answer)
+        ensures { self.new.tally ≡ self.old.tally }
+    {
+        let Some(known) = &*self.known else {
+            return;
+        };
+        match (command, answer) {
+            (Command::DropTable(name), Answer::Refused(Error::NotFound))
+                if known.columns(name).is_some() && !known.has_validation() => {
+                self.heard.lacks_validation = true;
+            }
+            _ => {}
+        }
     }
 
     // Tells why a rule refused a command, or takes in what it has made of the tables.

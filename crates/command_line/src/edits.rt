@@ -1,25 +1,21 @@
-//! Words that change one thing of a package: a property, a field of the summary, or a stream. What they do is a run of commands, committed
-//! at its end.
-ghost use Rattle.command_file.specs.Request as asked;
+//! Words that change properties of a package, or fields of its summary. What they do is a run of commands, committed at its end.
 ghost use Rattle.command_file.specs.RequestsOf.{request_of};
 ghost use Rattle.command_line.specs.Runs.{HasRun};
 ghost use Rattle.command_line.specs.declared.commands.Ending.TheVariants.{Done};
-ghost use Rattle.std.specs.Prelude.{◌≡◌, ◌≤◌, ◌∷◌, ℕ, [], IfErr, IfOk, List, map};
+ghost use Rattle.std.specs.Prelude.{◌≡◌, ◌≤◌, IfErr, map};
 
 use crate::commands::{Ending, Manner, quoted, run};
 use crate::progress::Progress;
-use crate::texts::{INPUT, commands_of, name_of};
+use crate::texts::commands_of;
 use cfb_medium::Error;
 use installer::Command;
 use installer_runs::Until;
 use msi_export::moment_in;
-use package_files::{
-    Failure, Names, tell, tell_failure, tell_trouble, trouble_at, trouble_of_kind,
-};
-use package_views::{NameFault, is_stream_name, lacks_property, name_fault};
+use package_files::{Failure, Names, tell, tell_failure};
+use package_views::{NameFault, lacks_property, name_fault, tell_no_field};
 use std::alloc::{AllocError, Global};
 use std::collections::BTreeSet;
-use std::fs::{self, File};
+use std::fs::File;
 use std::io::{self, Write};
 use std::rt::Files;
 use std::time::Clock;
@@ -243,73 +239,11 @@ fn commands_of_removal(alloc: Global, property: Property<'_>) -> Result<Vec<Comm
     Ok(commands)
 }
 
-/// Puts the bytes of a file into a stream, and commits; or nothing is changed. The status is 0 where a session did both, 1 where a rule refused
-/// it, 3 for a fault, a file that can't be read, or files that were refused; what went wrong is told.
-pub(crate) fn put_stream<R: Files<File = File> + AllocGlobal + Clock, E: Write>(
-    rt: &R,
-    names: &Names,
-    stream: &str,
-    path: &str,
-    err: &mut E,
-) -> u8
-    ensures most { result ≤ 3 }
-    ensures done { result ≡ 0 → (bytes : List ℕ)
-        × HasRun (asked.write_stream stream.now bytes ∷ asked.commit ∷ []) Done }
-{
-    let bytes = match bytes_in(rt, path, err) {
-        Some(bytes) => bytes,
-        None => return 3,
-    };
-    match commands_of_put(rt.alloc(), stream, bytes) {
-        Ok(commands) => run_own(rt, names, &commands, Change::Stream(stream), err),
-        Err(_) => out_of_memory(err),
-    }
-}
-
-// The bytes of a file that is read, or why it can't be is told.
-fn bytes_in<R: Files<File = File> + AllocGlobal, E: Write>(
-    rt: &R,
-    path: &str,
-    err: &mut E,
-) -> Option<Vec<u8>> {
-    let mut from = INPUT;
-    if path != "-" {
-        if let Some(trouble) = trouble_at(rt, path) {
-            tell_trouble(path, trouble, err);
-            return None;
-        }
-        from = path;
-    }
-    match fs::read(rt, from) {
-        Ok(bytes) => Some(bytes),
-        Err(error) if error.kind() == io::ErrorKind::OutOfMemory => {
-            tell("out of memory", err);
-            None
-        }
-        Err(error) => {
-            tell_trouble(name_of(path), trouble_of_kind(error.kind()), err);
-            None
-        }
-    }
-}
-
-// The commands that put bytes into a stream, and commit.
-fn commands_of_put(alloc: Global, stream: &str, bytes: Vec<u8>) -> Result<Vec<Command>, AllocError>
-    ensures { IfOk result (λ commands. map request_of commands.items
-        ≡ asked.write_stream stream.now bytes.items ∷ asked.commit ∷ []) }
-{
-    let mut commands = Vec::new(alloc);
-    commands.push(Command::WriteStream(String::from_str(alloc, stream)?, bytes))?;
-    commands.push(Command::Commit)?;
-    Ok(commands)
-}
-
 // What a word changes.
 #[derive(Clone, Copy, Debug)]
 enum Change<'a> {
     Properties(Properties<'a>),
     Removal(Property<'a>),
-    Stream(&'a str),
 }
 
 // Tells that no summary has a field, or what the field takes in place of a value.
@@ -319,10 +253,10 @@ fn tell_wrong_field<E: Write>(named: &str, name: &str, value: Option<&str>, err:
             writeln!(err, "msidb: {named}: {name} takes {wanted}, not {value}")
         }
         (Some(_), None) => writeln!(err, "msidb: {named}: {name} can't be taken away"),
-        (None, _) => writeln!(
-            err,
-            "msidb: {named}: no summary has a field {name}; `msidb set --help` tells the fields"
-        ),
+        (None, _) => {
+            tell_no_field(named, name, err);
+            Ok(())
+        }
     };
 }
 
@@ -364,6 +298,7 @@ fn run_own<R: Files<File = File> + AllocGlobal + Clock, E: Write>(
         until: Until::Refusal,
         is_quiet: false,
         is_own: true,
+        commits_at_end: false,
     };
     let mut progress = Progress::new(rt, err, false, commands.len());
     let ended = run(rt, names, commands, manner, &mut io::sink(), &mut progress);
@@ -398,7 +333,6 @@ fn tell_refused<R: Files<File = File> + AllocGlobal, E: Write>(
         // (told with what makes it so)
         (Error::InvalidData, _) => {}
         (Error::NotFound, _) => tell_no_table(named, err),
-        (_, Change::Stream(name)) => tell_refused_stream(named, name, error, err),
         (_, Change::Removal(property)) => tell_refused_property(rt, names, property, err),
         (_, Change::Properties(properties)) => match property_at(properties, place) {
             Some(property) => tell_refused_property(rt, names, property, err),
@@ -438,20 +372,6 @@ fn tell_no_table<E: Write>(named: &str, err: &mut E) {
         err,
         "msidb: {named}: no table Property; make one by a `run`, or set a field of the summary with --summary"
     );
-}
-
-fn tell_refused_stream<E: Write>(named: &str, name: &str, error: Error, err: &mut E) {
-    let _ = match error {
-        Error::AlreadyExists => writeln!(err, "msidb: {named}: a storage has the name {name}"),
-        _ if is_stream_name(name) => writeln!(
-            err,
-            "msidb: {named}: the file has too many bytes for a stream of this package"
-        ),
-        _ => writeln!(
-            err,
-            "msidb: {named}: no stream can have the name \"{name}\"; it has 1 to 62 letters, digits, _ and ., or up to 31 others, and no /, \\, : or !"
-        ),
-    };
 }
 
 // Tells that a property isn't set, and what is wrong with its name, if it is that.

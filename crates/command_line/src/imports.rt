@@ -6,10 +6,13 @@ ghost use Rattle.std.specs.Prelude.{◌≡◌, ◌≤◌, map};
 
 use crate::commands::{Ending, Manner, run};
 use crate::progress::Progress;
+use crate::reasons::known_tables;
 use cfb_medium::Error;
+use command_reasons::{KnownTables, reason_of};
 use installer_runs::Until;
 use package_files::{Names, tell_failure};
 use package_imports::{Plan, plan_import, read_sources};
+use std::alloc::Global;
 use std::fs::File;
 use std::io::{self, Write};
 use std::rt::Files;
@@ -50,6 +53,7 @@ fn run_plan<R: Files<File = File> + AllocGlobal + Clock, E: Write>(
         until: Until::Refusal,
         is_quiet: false,
         is_own: true,
+        commits_at_end: false,
     };
     let commands = &plan.commands;
     let mut progress = Progress::new(rt, err, false, commands.len());
@@ -57,7 +61,7 @@ fn run_plan<R: Files<File = File> + AllocGlobal + Clock, E: Write>(
     match ended {
         Ok(Ending::Done) => 0,
         Ok(Ending::Refused(error, place)) => {
-            tell_refused(names, plan, error, place, err);
+            tell_refused(rt, names, plan, error, place, err);
             1
         }
         Err(failure) => {
@@ -67,13 +71,61 @@ fn run_plan<R: Files<File = File> + AllocGlobal + Clock, E: Write>(
     }
 }
 
-// Tells which file a rule refused.
-fn tell_refused<E: Write>(names: &Names, plan: &Plan, error: Error, place: usize, err: &mut E) {
+// Tells which file a rule refused, and why.
+fn tell_refused<R: Files<File = File> + AllocGlobal, E: Write>(
+    rt: &R,
+    names: &Names,
+    plan: &Plan,
+    error: Error,
+    place: usize,
+    err: &mut E,
+) {
+    // (told with what makes it so)
+    if error == Error::InvalidData {
+        return;
+    }
     let named = names.named();
-    let _ = match plan.origins.get(place) {
-        // (told with what makes it so)
-        _ if error == Error::InvalidData => Ok(()),
-        Some(path) => writeln!(err, "msidb: {path}: {named} is left as it was: {error}"),
-        None => writeln!(err, "msidb: {named} is left as it was: {error}"),
+    let Some(path) = plan.origins.get(place) else {
+        let _ = writeln!(
+            err,
+            "msidb: {named} is left as it was: its commit was refused"
+        );
+        return;
     };
+    // (the package is what it was before the run)
+    let told = match known_tables(rt, names) {
+        Some(known) => tell_why(rt.alloc(), named, path, known, plan, error, place, err),
+        None => false,
+    };
+    if !told {
+        let _ = writeln!(err, "msidb: {path}: {named} is left as it was: {error}");
+    }
+}
+
+// Tells why a rule refused the command behind so many, on a package with these tables; whether that is known.
+fn tell_why<E: Write>(
+    alloc: Global,
+    named: &str,
+    path: &str,
+    mut known: KnownTables,
+    plan: &Plan,
+    error: Error,
+    place: usize,
+    err: &mut E,
+) -> bool {
+    for command in plan.commands.iter().take(place) {
+        if known.follow(command).is_err() {
+            return false;
+        }
+    }
+    let Some(command) = plan.commands.get(place) else {
+        return false;
+    };
+    match reason_of(alloc, &known, command, error) {
+        Ok(Some(reason)) => {
+            let _ = writeln!(err, "msidb: {path}: {named} is left as it was: {reason}");
+            true
+        }
+        _ => false,
+    }
 }

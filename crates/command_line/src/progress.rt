@@ -43,10 +43,11 @@ impl<'a, R: Clock, E: Write> Progress<'a, R, E> {
         };
         if seconds > self.told_at {
             self.told_at = seconds;
+            let done = self.done.min(self.total);
             let _ = writeln!(
                 self.err,
-                "msidb: {} of {} commands, {seconds} s",
-                self.done, self.total
+                "msidb: {done} of {} commands, {seconds} s",
+                self.total
             );
         }
     }

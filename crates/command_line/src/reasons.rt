@@ -1,4 +1,5 @@
 //! Why commands of a run are refused by rule, as it is told.
+use crate::unfit::KnownPages;
 use cfb_medium::Error;
 use command_reasons::{KnownTables, Spoken, reason_of};
 use installer::Command;
@@ -10,17 +11,62 @@ use std::fs::File;
 use std::io::Write;
 use std::rt::Files;
 
-/// The tables of a package before a run; none where they can't be read.
+/// What is known of a package before a run: nothing where it can't be read.
+#[derive(Drop)]
+pub(crate) struct Before {
+    /// Its tables.
+    pub tables: Option<KnownTables>,
+    /// Its code pages.
+    pub pages: Option<KnownPages>,
+}
+
+impl Before {
+    /// Nothing.
+    pub(crate) fn nothing() -> Before {
+        Before {
+            tables: None,
+            pages: None,
+        }
+    }
+}
+
+/// What is known of a package before a run, with its tables or without.
+pub(crate) fn known_before<R: Files<File = File> + AllocGlobal>(
+    rt: &R,
+    names: &Names,
+    with_tables: bool,
+) -> Before {
+    match package_at(rt, names) {
+        Ok(package) => known_of(rt.alloc(), &package, with_tables),
+        Err(_) => Before::nothing(),
+    }
+}
+
+fn known_of(alloc: Global, package: &Package<Shown>, with_tables: bool) -> Before {
+    Before {
+        tables: if with_tables {
+            tables_in(alloc, package)
+        } else {
+            None
+        },
+        pages: Some(KnownPages::of(package)),
+    }
+}
+
+/// The tables of a package; none where they can't be read.
 pub(crate) fn known_tables<R: Files<File = File> + AllocGlobal>(
     rt: &R,
     names: &Names,
 ) -> Option<KnownTables> {
-    let package = match package_at(rt, names) {
-        Ok(package) => package,
-        Err(_) => return None,
-    };
-    let mut known = KnownTables::new(rt.alloc());
-    match add_tables(&package, &mut known) {
+    match package_at(rt, names) {
+        Ok(package) => tables_in(rt.alloc(), &package),
+        Err(_) => None,
+    }
+}
+
+fn tables_in(alloc: Global, package: &Package<Shown>) -> Option<KnownTables> {
+    let mut known = KnownTables::new(alloc);
+    match add_tables(package, &mut known) {
         Ok(()) => Some(known),
         Err(_) => None,
     }

@@ -6,15 +6,17 @@ ghost use Rattle.command_line.specs.declared.commands.Ending.TheVariants.{Done};
 ghost use Rattle.std.specs.Prelude.{◌≡◌, ◌≤◌, IfErr, List, map};
 
 use crate::adoption::adopt_there;
-use crate::builds::built_of;
+use crate::builds::{built_of, tell_missing_cabinets};
 use crate::commands::{Ending, Manner, run};
-use crate::edits::{Properties, Property, pairs_of, put_stream, set_properties, unset_property};
+use crate::edits::{Properties, Property, pairs_of, set_properties, unset_property};
 use crate::failures::failure_of;
 use crate::files;
 use crate::imports::import;
 use crate::lists::list;
+use crate::new_files::NewFiles;
 use crate::progress::Progress;
-use crate::sessions::{commit_copy, create_package};
+use crate::putting::put_stream;
+use crate::sessions::{commit_moved, create_package};
 use crate::terminals::Terminals;
 use crate::texts::{commands_in, name_of};
 use cfb::MemoryMedium;
@@ -27,8 +29,8 @@ use installer_runs::Until;
 use msi::Package;
 use package_checks::{Checking, adopted_package, check_package, tell_twice};
 use package_files::{
-    Failure, Faults, Found, Names, Trouble, cut_log, names_of, remove_fresh, tell, tell_failure,
-    tell_failure_of, trouble_at,
+    Failure, Faults, Found, Names, Trouble, cut_log, names_of, tell, tell_failure, tell_failure_of,
+    trouble_at,
 };
 use package_reading::pages_of;
 use package_validation::{Ignored, Validation, ignored_in, validate_package};
@@ -440,7 +442,7 @@ fn do_word<R: Files<File = File> + AllocGlobal + Clock + Clone + Drop, O: Write,
     ensures { result ≤ 3 }
 {
     let ended = match word {
-        Word::Create => create(rt, names, out),
+        Word::Create => create(rt, names, out, err),
         Word::Adopt(source, log, adoption) => {
             let source = match named(rt, source, log, err) {
                 Ok(source) => source,
@@ -511,8 +513,10 @@ fn run_told<R: Files<File = File> + AllocGlobal + Clock, O: Write, E: Write>(
     ensures most { result ≤ 3 }
     ensures done { result ≡ 0 → HasRun (map request_of commands.now) Done }
 {
-    let mut progress = Progress::new(rt, err, shows_progress, commands.len());
-    let ended = run(rt, names, commands, manner_of(options), out, &mut progress);
+    let manner = manner_of(options);
+    let total = manner.count_of(commands);
+    let mut progress = Progress::new(rt, err, shows_progress, total);
+    let ended = run(rt, names, commands, manner, out, &mut progress);
     status_of(ended, names, err)
 }
 
@@ -527,6 +531,7 @@ fn manner_of(options: RunOptions) -> Manner {
         until,
         is_quiet: options.quiet,
         is_own: false,
+        commits_at_end: options.all_or_nothing,
     }
 }
 
@@ -574,23 +579,21 @@ pub(crate) fn status_of<E: Write>(ended: Result<Ending, Failure>, names: &Names,
 }
 
 // Makes a package and commits it.
-fn create<R: Files<File = File> + AllocGlobal, O: Write>(
+fn create<R: Files<File = File> + AllocGlobal, O: Write, E: Write>(
     rt: &R,
     names: &Names,
     out: &mut O,
+    err: &mut E,
 ) -> Result<Ending, Failure> {
+    let new = NewFiles::of(rt, names, err)?;
     let faults = Faults::new();
-    let (device, fresh) = files::create(rt, names, &faults)?;
+    let device = new.open(rt, names, &faults)?;
     match create_package(rt.alloc(), device) {
         Ok(()) => {
-            cut_log(rt, names);
+            new.keep(rt, names)?;
             answer("created", out)
         }
-        Err(error) => {
-            let failure = files::why_fault(rt, names, &faults, why_not_made(error));
-            remove_fresh(rt, names, fresh);
-            Err(failure)
-        }
+        Err(error) => Err(new.undo(rt, names, &faults, why_not_made(error))),
     }
 }
 
@@ -617,7 +620,7 @@ fn adopt_file<R: Files<File = File> + AllocGlobal, O: Write, E: Write>(
         Ok(pages) => pages,
         Err(status) => return status,
     };
-    let mut package = match adopted_package(rt, source, pages, adoption.validation, out, err) {
+    let package = match adopted_package(rt, source, pages, adoption.validation, out, err) {
         Ok(package) => package,
         Err(status) => {
             if is_turned_round(rt, names, source) {
@@ -626,7 +629,7 @@ fn adopt_file<R: Files<File = File> + AllocGlobal, O: Write, E: Write>(
             return status;
         }
     };
-    match keep_copy(rt, names, &mut package, "adopted", out) {
+    match keep_package(rt, names, package, "adopted", out, err) {
         Err(Failure::Package(Trouble::Present)) => {
             tell_order(names.named(), err);
             3
@@ -645,11 +648,14 @@ fn build_file<R: Files<File = File> + AllocGlobal + Clone + Drop, O: Write, E: W
 ) -> u8
     ensures { result ≤ 3 }
 {
-    let mut package = match built_of(rt, folder, err) {
+    let package = match built_of(rt, folder, err) {
         Ok(package) => package,
         Err(status) => return status.min(3),
     };
-    let ended = keep_copy(rt, names, &mut package, "built", out);
+    let ended = keep_package(rt, names, package, "built", out, err);
+    if ended.is_ok() {
+        tell_missing_cabinets(rt, names, err);
+    }
     status_of(ended, names, err)
 }
 
@@ -692,26 +698,24 @@ fn asked_of<E: Write>(
     }
 }
 
-// Makes the files of a package, and commits a copy of this one there.
-fn keep_copy<R: Files<File = File> + AllocGlobal, O: Write>(
+// Makes the files of a package, and commits this one there. It is let go on the way, since a commit takes twice its bytes.
+fn keep_package<R: Files<File = File> + AllocGlobal, O: Write, E: Write>(
     rt: &R,
     names: &Names,
-    package: &mut Package<MemoryMedium>,
+    package: Package<MemoryMedium>,
     word: &str,
     out: &mut O,
+    err: &mut E,
 ) -> Result<Ending, Failure> {
+    let new = NewFiles::of(rt, names, err)?;
     let faults = Faults::new();
-    let (device, fresh) = files::create(rt, names, &faults)?;
-    match commit_copy(rt.alloc(), package, device) {
+    let device = new.open(rt, names, &faults)?;
+    match commit_moved(rt.alloc(), package, device) {
         Ok(()) => {
-            cut_log(rt, names);
+            new.keep(rt, names)?;
             answer(word, out)
         }
-        Err(error) => {
-            let failure = files::why_fault(rt, names, &faults, why_not_made(error));
-            remove_fresh(rt, names, fresh);
-            Err(failure)
-        }
+        Err(error) => Err(new.undo(rt, names, &faults, why_not_made(error))),
     }
 }
 

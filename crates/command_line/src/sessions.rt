@@ -4,9 +4,11 @@ ghost use Rattle.installer_runs.specs.Runs.{RunsAnyhow};
 ghost use Rattle.std.specs.Prelude.{IfOk, map};
 
 use cfb::{CaseMapper, MemoryMedium};
-use cfb_medium::Error;
+use cfb_medium::{Error, ReadMedium};
 use installer::Command;
-use installer_runs::{Ending, Listener, Until, adopt_in_place_on, copy_on, create_on, run_on};
+use installer_runs::{
+    Ending, Listener, Until, adopt_in_place_on, create_on, move_on, put_on, run_on,
+};
 use msi::Package;
 use package_files::PackageDevice;
 use staged::Device;
@@ -50,12 +52,24 @@ pub(crate) fn adopt_on_device<R: Files<File = File>>(
     adopted
 }
 
-/// Commits a copy of a package to a device whose own is empty, once the device was recovered. `AlreadyExists` where it isn't empty.
-pub(crate) fn commit_copy<R: Files<File = File>>(
+/// Puts all bytes of a source into a stream of a package that is there, and commits it.
+pub(crate) fn put_on_device<R: Files<File = File>, S: ReadMedium>(
     alloc: Global,
-    package: &mut Package<MemoryMedium>,
+    device: PackageDevice<'_, R>,
+    stream: &str,
+    source: &mut S,
+) -> Result<(), Error> {
+    let letters = CaseMapper::ascii(alloc)?;
+    let (_device, put) = put_on(alloc, device, letters, stream, source);
+    put
+}
+
+/// Commits a package to a device whose own is empty, once the device was recovered. `AlreadyExists` where it isn't empty.
+pub(crate) fn commit_moved<R: Files<File = File>>(
+    alloc: Global,
+    package: Package<MemoryMedium>,
     device: PackageDevice<'_, R>,
 ) -> Result<(), Error> {
-    let (_device, copied) = copy_on(alloc, package, device);
-    copied
+    let (_device, moved) = move_on(alloc, package, device);
+    moved
 }

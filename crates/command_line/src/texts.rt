@@ -1,5 +1,6 @@
 //! The text of a command file.
 use crate::empties::tell_empty_texts;
+use crate::wrong_commands::{LIST, tell_refusal};
 use cfb::MAGIC_NUMBER;
 use cfb_medium::Error;
 use command_file::{Command, Refusal, read_commands, refusal_in};
@@ -124,7 +125,7 @@ fn json_error(alloc: Global, text: &str) -> Option<serde_json::Error> {
     Json::from_str(alloc, text).err()
 }
 
-// Tells why a text holds no commands: the line and column where it is no JSON, else the command that is wrong, and its key.
+// Tells why a text holds no commands: the line and column where it is no JSON, else the command that is wrong, and what is wanted there.
 fn tell_why_refused<E: Write>(alloc: Global, path: &str, text: &str, error: Error, err: &mut E) {
     if error == Error::Memory {
         return tell("out of memory", err);
@@ -133,14 +134,12 @@ fn tell_why_refused<E: Write>(alloc: Global, path: &str, text: &str, error: Erro
         let (line, column) = (error.line(), error.column());
         let _ = writeln!(
             err,
-            "msidb: {path}: no JSON at line {line}, column {column}"
+            "msidb: {path}: no JSON at line {line}, column {column}; {LIST}"
         );
         return;
     }
     match refusal_of(alloc, text) {
-        Ok(Some(refusal)) => {
-            let _ = writeln!(err, "msidb: {path}: {refusal}");
-        }
+        Ok(Some(refusal)) => tell_refusal(alloc, path, text, &refusal, err),
         _ => tell_trouble(path, Trouble::NoCommands, err),
     }
 }

@@ -49,6 +49,7 @@ fn no_table<'a>(known: &'a KnownTables, name: &'a str) -> Reason<'a> {
 fn of_name<'a>(known: &'a KnownTables, name: &'a str, error: Error) -> Option<Reason<'a>> {
     match error {
         Error::NotFound if known.columns(name).is_none() => Some(no_table(known, name)),
+        Error::NotFound if !known.has_validation() => Some(Reason::NoValidation),
         Error::InvalidInput if is_system(name) => Some(Reason::System(name)),
         Error::InvalidInput => Some(Reason::TableName(name)),
         _ => None,
@@ -69,7 +70,7 @@ fn of_insert<'a>(
         return Ok(Some(no_table(known, name)));
     };
     match error {
-        Error::AlreadyExists => Ok(Some(Reason::KeyIsThere(rows.len()))),
+        Error::AlreadyExists => Ok(Some(Reason::KeyIsThere(columns, rows))),
         Error::InvalidInput => of_rows(alloc, name, columns, rows),
         _ => Ok(None),
     }
@@ -241,6 +242,7 @@ fn of_create<'a>(
         Error::InvalidInput => Some(of_new_columns(name, columns).unwrap_or(Reason::TableRules)),
         Error::AlreadyExists if known.columns(name).is_some() => Some(Reason::TableIsThere(name)),
         Error::AlreadyExists => Some(Reason::PlaceIsTaken(name)),
+        Error::NotFound if !known.has_validation() => Some(Reason::NoValidation),
         _ => None,
     }
 }

@@ -1,6 +1,7 @@
 //! Which tables a package has at each moment of a run, by the commands that were done.
 use cfb_medium::Error;
 use command_file::Command;
+use command_places::are_near;
 use msi_columns::Column;
 use std::alloc::Global;
 use std::collections::BTreeMap;
@@ -61,6 +62,11 @@ impl KnownTables {
         None
     }
 
+    /// Whether tables are made and dropped: there is a table `_Validation`.
+    pub fn has_validation(&self) -> bool {
+        self.columns("_Validation").is_some()
+    }
+
     /// Takes in that a command was done. `Memory` where there is no room; then the tables aren't known any more.
     pub fn follow(&mut self, command: &Command) -> Result<(), Error> {
         match command {
@@ -119,38 +125,4 @@ fn copies_of(alloc: Global, columns: &[Column]) -> Result<Vec<Column>, Error> {
         copies.push(column.clone(alloc)?)?;
     }
     Ok(copies)
-}
-
-/// Whether two names are spelled alike but for case, or for one letter that one of them has more or otherwise.
-pub(crate) fn are_near(one: &str, other: &str) -> bool {
-    if one.len() < 3 || other.len() < 3 {
-        return one.eq_ignore_ascii_case(other);
-    }
-    let (one, other) = (one.as_bytes(), other.as_bytes());
-    let front = alike_in_front(one, other);
-    let (Some(one), Some(other)) = (one.get(front..), other.get(front..)) else {
-        return false;
-    };
-    match (one, other) {
-        ([], rest) | (rest, []) => rest.len() <= 1,
-        ([_, ones @ ..], [_, others @ ..]) => {
-            are_alike(ones, others) || are_alike(ones, other) || are_alike(one, others)
-        }
-    }
-}
-
-// How many bytes are alike in front, but for case.
-fn alike_in_front(one: &[u8], other: &[u8]) -> usize {
-    let mut count = 0usize;
-    for (a, b) in one.iter().zip(other.iter()) {
-        if !a.eq_ignore_ascii_case(b) {
-            return count;
-        }
-        count = count.saturating_add(1);
-    }
-    count
-}
-
-fn are_alike(one: &[u8], other: &[u8]) -> bool {
-    one.eq_ignore_ascii_case(other)
 }

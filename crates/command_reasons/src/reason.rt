@@ -22,8 +22,8 @@ pub enum Reason<'a> {
     Cell(Option<usize>, &'a Column, &'a Value, CellFault),
     /// Two new rows have one key.
     Twins(usize, usize),
-    /// A row that is there has the key of one of so many new ones.
-    KeyIsThere(usize),
+    /// A row that is there has the key of one of these new ones, of a table with these columns.
+    KeyIsThere(&'a [Column], &'a [Vec<Value>]),
     /// Two rows would have one key.
     KeysMeet,
     /// There would be more than 65,536 rows, or the string pool is full.
@@ -36,6 +36,8 @@ pub enum Reason<'a> {
     PlaceIsTaken(&'a str),
     /// A table of this name is there.
     TableIsThere(&'a str),
+    /// The package has no table `_Validation`, so none is made or dropped.
+    NoValidation,
     /// No table can have this name.
     TableName(&'a str),
     /// The name is that of one of the two streams of the string pool.
@@ -80,7 +82,6 @@ impl<'a> Reason<'a> {
     // The words of one that names nothing.
     fn sentence(&self) -> Option<&'static str> {
         Some(match self {
-            Reason::KeyIsThere(1) => "a row with its key is there already",
             Reason::KeysMeet => "two rows would have one key",
             Reason::TooMuch =>
                 "the table would have more than 65536 rows, or the string pool is full",
@@ -88,6 +89,7 @@ impl<'a> Reason<'a> {
             Reason::TableRules =>
                 "a column breaks a rule of tables, or there would be too many rows of columns",
             Reason::NoKey => "no column belongs to the key; write \"key\":true at one",
+            Reason::NoValidation => "the package has no table _Validation",
             Reason::NoCommit => "there is no commit yet to go back to",
             _ => return None,
         })
@@ -147,7 +149,7 @@ impl<'a> Reason<'a> {
             Reason::RowLength(row, values, columns) => write_row_length(*row, *values, *columns, f),
             Reason::Cell(row, column, value, fault) => write_cell(*row, column, value, *fault, f),
             Reason::Twins(one, other) => write_twins(number(*one), number(*other), f),
-            Reason::KeyIsThere(rows) => write_key(*rows, f),
+            Reason::KeyIsThere(columns, rows) => write_keys(columns, rows, f),
             Reason::ColumnCount(count) => write_column_count(*count, f),
             Reason::NoStream(name) => write!(f, "no stream {name:?}"),
             Reason::StreamCharacter(name, character) => write_character(name, *character, f),
@@ -194,11 +196,48 @@ fn write_twins<W: fmt::Write>(one: usize, other: usize, f: &mut fmt::Formatter<W
     write!(f, "rows {one} and {other} have one key")
 }
 
-fn write_key<W: fmt::Write>(rows: usize, f: &mut fmt::Formatter<W>) -> fmt::Result {
-    write!(
-        f,
-        "a row with the key of one of its {rows} rows is there already"
-    )
+fn write_keys<W: fmt::Write>(
+    columns: &[Column],
+    rows: &[Vec<Value>],
+    f: &mut fmt::Formatter<W>,
+) -> fmt::Result {
+    if rows.len() == 1 {
+        f.write_str("a row with its key")?;
+    } else {
+        f.write_str("a row with the key of one of its ")?;
+        write!(f, "{} rows", rows.len())?;
+    }
+    for (at, row) in rows.iter().enumerate() {
+        if at == MOST_KEYS {
+            f.write_str("; ..")?;
+            break;
+        }
+        f.write_str(if at == 0 { " (" } else { "; " })?;
+        write_key(columns, row, f)?;
+    }
+    f.write_str(") is there already")
+}
+
+// How many keys are told at most.
+const MOST_KEYS: usize = 10;
+
+// Writes the values of a row's key.
+fn write_key<W: fmt::Write>(
+    columns: &[Column],
+    row: &[Value],
+    f: &mut fmt::Formatter<W>,
+) -> fmt::Result {
+    let mut is_first = true;
+    for (column, value) in columns.iter().zip(row.iter()) {
+        if column.is_primary_key() {
+            if !is_first {
+                f.write_str(", ")?;
+            }
+            write_value(value, f)?;
+            is_first = false;
+        }
+    }
+    Ok(())
 }
 
 fn write_column_count<W: fmt::Write>(count: usize, f: &mut fmt::Formatter<W>) -> fmt::Result {

@@ -1,17 +1,19 @@
 -- Files that were read.
 use Rattle.std.proofs.Common.{◌≡◌, ◌∙◌, ℕ, ◌≤◌, List, [], ◌∷◌, length, ◌-◌, get_or, take, drop, length-drop, map, refl, sym, subst, ap, arith}
 use Rattle.std.proofs.lemmas.List.{take_all}
-use Rattle.std.specs.Prelude.{Some, None, Option, string_bytes}
+use Rattle.std.specs.Prelude.{Bool, Some, None, bytes_eq, if◌then◌else◌, string_bytes, true}
 use Rattle.idt_rows.specs.Rows.{datum_of, Datum}
-use Rattle.idt_rows.specs.declared.cells.Kind.{Kind}
+use Rattle.idt_summaries.specs.Reading.{properties_in, summary_name}
 use Rattle.idt_tables.specs.Headings.{Heading, heading_in}
-use Rattle.idt_tables.specs.Tables.{Table, kind_of, kinds_of, rows_in, table_by, table_of_lines, with_rows}
+use Rattle.idt_tables.specs.Tables.{kind_of, kinds_of, rows_in, table_by, with_rows}
 use Rattle.idt_imports.specs.Columns.{HasColumns}
-use Rattle.idt_imports.specs.Reading.{IsTable, SaysLines, SaysRows}
+use Rattle.idt_imports.specs.Reading.{SaysLines, SaysRows}
 use Rattle.idt_imports.specs.declared.columns.IdtColumn.{IdtColumn}
+use Rattle.idt_imports.specs.declared.summaries.SummaryRows.{SummaryRows}
 use Rattle.idt_imports.specs.declared.tables.IdtTable.{IdtTable}
 use Rattle.idt_imports.specs.declared.tables.Imported.{Imported}
 use Rattle.idt_imports.specs.declared.tables.Imported.TheVariants as said
+use Rattle.msi_props.specs.Held.{pair_in}
 use Rattle.idt_imports.proofs.ColumnsRead.{map_map}
 
 -- a table was read: its name, columns and rows
@@ -26,11 +28,23 @@ was_read held h lines columns name has same rows =
       record { name = name; columns = has; rows = refl },
     )
 
+-- a summary was read: its properties
+pub was_summary : (held : SummaryRows) (h : Heading) (lines : List (List ℕ)) (columns own : List IdtColumn) (rows : List (List Datum)) → columns ≡ own → HasColumns own h → bytes_eq h.table summary_name ≡ true
+    → rows_in (map (λ c. kind_of c.coltype.letter) columns) lines ≡ Some rows → properties_in rows ≡ Some (map pair_in held.properties.items)
+    → SaysRows (said.Summary held) h lines
+was_summary held h lines columns own rows same has named read says =
+    let kinds : map (λ c. kind_of c.coltype.letter) columns ≡ kinds_of h.types =
+    ap (map (λ c. kind_of c.coltype.letter)) same ∙ map_map (λ t. kind_of t.letter) (λ c. c.coltype) own ∙ ap kinds_of has.types in (
+      record { heading = h; rows = rows },
+      ap (λ k. with_rows h (rows_in k lines)) (sym kinds) ∙ ap (with_rows h) read,
+      ap (λ (b : Bool). if b then properties_in rows else None) named ∙ says,
+    )
+
 -- behind a heading that was read
 pub behind_heading : (it : Imported) (h : Heading) (names types keys : List ℕ) (lines : List (List ℕ)) → Some h ≡ heading_in (names ∷ types ∷ keys ∷ []) → SaysRows it h lines
     → SaysLines it (names ∷ types ∷ keys ∷ lines)
 behind_heading (said.Table held) h names types keys lines is says = (says.0, ap (λ x. table_by x lines) (sym is) ∙ says.1, says.2)
-behind_heading (said.Summary rows) h names types keys lines is says = tt
+behind_heading (said.Summary held) h names types keys lines is says = (says.0, ap (λ x. table_by x lines) (sym is) ∙ says.1, says.2)
 behind_heading (said.Page page) h names types keys lines is says = tt
 
 three_front : {A : Type 0} (text_of : A → List ℕ) (ps : List A) (d : A) → 3 ≤ length ps

@@ -25,8 +25,8 @@ pub enum Wanted {
     FewerColumns,
     /// A type of a column.
     Type,
-    /// So many cells.
-    Cells(usize),
+    /// The second of these numbers of cells, where the first is there.
+    Cells(usize, usize),
     /// The name of a table.
     TableName,
     /// The name of a column that isn't a key yet.
@@ -71,7 +71,7 @@ impl Wanted {
             Wanted::OtherName => "a name that no column before it has",
             Wanted::FewerColumns => "a line of 32 names at most",
             Wanted::Type => "a type (s, l, i or v with a width; i2 or i4; capitals take null)",
-            Wanted::Cells(_) => "cells",
+            Wanted::Cells(_, _) => "another number of cells",
             Wanted::TableName => "the name of a table (letters, digits, _ and dots)",
             Wanted::KeyName => "the name of a column that is no key yet",
             Wanted::Key => "a key",
@@ -93,7 +93,6 @@ impl Wanted {
 impl fmt::Display for Wanted {
     fn fmt<W: fmt::Write>(&self, f: &mut fmt::Formatter<W>) -> fmt::Result {
         match self {
-            Wanted::Cells(count) => write!(f, "a line of {count} ")?,
             Wanted::Length(count) => write!(f, "a text of {count} ")?,
             Wanted::OnPage(page) => write!(f, "a text that code page {} ", page.id())?,
             _ => {}
@@ -116,8 +115,26 @@ pub struct Fault {
 impl fmt::Display for Fault {
     fn fmt<W: fmt::Write>(&self, f: &mut fmt::Formatter<W>) -> fmt::Result {
         let (line, column, wanted) = (self.line, self.column, self.wanted);
-        write!(f, "line {line}, column {column}: {wanted} is wanted")
+        match wanted {
+            Wanted::Cells(there, wanted) => write_cells(line, there, wanted, f),
+            _ => write!(f, "line {line}, column {column}: {wanted} is wanted"),
+        }
     }
+}
+
+// Tells of a line with another number of cells than is wanted.
+fn write_cells<W: fmt::Write>(
+    line: usize,
+    there: usize,
+    wanted: usize,
+    f: &mut fmt::Formatter<W>,
+) -> fmt::Result {
+    let noun = if there == 1 { "cell" } else { "cells" };
+    let verb = if wanted == 1 { "is" } else { "are" };
+    write!(
+        f,
+        "line {line} has {there} {noun}, and {wanted} {verb} wanted"
+    )
 }
 
 /// Why a file isn't read.

@@ -25,7 +25,7 @@ pub(crate) fn columns_of(
 {
     let (names, types) = (heading.names.len(), heading.types.len());
     if types != names {
-        return wrong(1, types.min(names), Wanted::Cells(names));
+        return wrong(1, types.min(names), Wanted::Cells(types, names));
     }
     check_columns(alloc, heading)?;
     check_keys(heading, cells)?;

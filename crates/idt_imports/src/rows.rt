@@ -78,14 +78,14 @@ fn wrong_line(
     let parts = parts_of(alloc, text)?;
     if parts.len() != columns.len() {
         let first = parts.len().min(columns.len());
-        return wrong(line, first, Wanted::Cells(columns.len()));
+        return wrong(line, first, Wanted::Cells(parts.len(), columns.len()));
     }
     for (at, column) in columns.iter().enumerate() {
         if column.coltype.letter == Letter::Number && !is_number(parts.get(at)) {
             return wrong(line, at, number_of(column));
         }
     }
-    wrong(line, 0, Wanted::Cells(columns.len()))
+    wrong(line, 0, Wanted::Cells(parts.len(), columns.len()))
 }
 
 fn is_number(part: Option<&&str>) -> bool {
@@ -122,7 +122,7 @@ fn check_row(columns: &[IdtColumn], line: usize, row: &[Cell]) -> Result<(), Ref
 fn wanted_for(column: &IdtColumn, cell: &Cell) -> Option<Wanted> {
     let width = column.coltype.width;
     match cell {
-        Cell::Null if column.is_key => Some(Wanted::Value),
+        Cell::Null if column.is_key && !column.coltype.nullable => Some(Wanted::Value),
         Cell::Number(number) if !fits(*number, width) => Some(number_of(column)),
         Cell::File(name) if !is_file_name(name) => Some(Wanted::FileName),
         _ => None,

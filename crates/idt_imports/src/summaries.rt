@@ -1,10 +1,15 @@
 //! Properties of the summary.
+ghost use Rattle.std.specs.Prelude.{◌≡◌, ◌∷◌, ◌++◌, [], ℕ, List, map, IfOk, IsErr, OnOk, Some};
+ghost use Rattle.idt_rows.specs.Rows.{datum_of};
+ghost use Rattle.idt_rows.specs.Rows as datum;
+ghost use Rattle.idt_summaries.specs.Reading.{properties_in, row_says};
+ghost use Rattle.msi_props.specs.Held.{pair_in};
+ghost use Rattle.msi_props.specs.Props.{Property};
+
 use crate::faults::{Refusal, Wanted, wrong};
 use crate::rows::{FIRST_ROW, IdtRow};
-use crate::texts::{own, whole_of};
-use cfb_medium::Timestamp;
 use idt_rows::Cell;
-use jiff_core::civil::{Date, DateTime, Time};
+use idt_summaries::value_in;
 use msi_props::PropertyValue;
 use msi_texts::CodePage;
 use std::alloc::Global;
@@ -19,21 +24,64 @@ pub struct SummaryRows {
 }
 
 /// The properties that rows say.
-pub(crate) fn read_summary(alloc: Global, rows: &[IdtRow]) -> Result<SummaryRows, Refusal> {
-    let mut properties = Vec::new(alloc);
-    let mut lines = Vec::new(alloc);
+pub(crate) fn read_summary(alloc: Global, rows: &[IdtRow]) -> Result<SummaryRows, Refusal>
+    ensures { IfOk result (λ said. properties_in (map (λ row. map datum_of row.items) rows.now)
+        ≡ Some (map pair_in said.properties.items)) }
+{
+    let mut summary = SummaryRows {
+        properties: Vec::new(alloc),
+        lines: Vec::new(alloc),
+    };
     for (at, row) in rows.iter().enumerate() {
-        let line = at.saturating_add(FIRST_ROW);
-        match row.as_slice() {
-            [Cell::Number(number), Cell::Text(text)] => {
-                properties.push(property_of(alloc, line, *number, text)?)?;
-                lines.push(line)?;
-            }
-            [Cell::Number(_), Cell::Null] => {}
-            _ => return wrong(line, 0, Wanted::Property),
-        }
+        push_row(alloc, at.saturating_add(FIRST_ROW), row, &mut summary)?;
     }
-    Ok(SummaryRows { properties, lines })
+    Ok(summary)
+}
+
+// Adds what the row of a line says.
+fn push_row(
+    alloc: Global,
+    line: usize,
+    row: &[Cell],
+    summary: &mut SummaryRows,
+) -> Result<(), Refusal>
+    ensures { OnOk result ((said : List (ℕ × Property))
+        × (row_says (map datum_of row.now) ≡ Some said)
+        × (map pair_in summary.new.properties.items
+        ≡ map pair_in summary.old.properties.items ++ said)) }
+{
+    match row {
+        [number, value] => push_cells(alloc, line, number, value, summary),
+        _ => wrong(line, 0, Wanted::Property),
+    }
+}
+
+// The same of its two cells.
+fn push_cells(
+    alloc: Global,
+    line: usize,
+    number: &Cell,
+    value: &Cell,
+    summary: &mut SummaryRows,
+) -> Result<(), Refusal>
+    ensures { OnOk result ((said : List (ℕ × Property))
+        × (row_says (datum_of number.now ∷ datum_of value.now ∷ []) ≡ Some said)
+        × (map pair_in summary.new.properties.items
+        ≡ map pair_in summary.old.properties.items ++ said)) }
+{
+    let Cell::Number(number) = number else {
+        return wrong(line, 0, Wanted::Property);
+    };
+    match value {
+        Cell::Text(text) => {
+            let property = property_of(alloc, line, *number, text)?;
+            summary.properties.push(property)?;
+            summary.lines.push(line)?;
+            Ok(())
+        }
+        Cell::Null => Ok(()),
+        _ => wrong(line, 0, Wanted::Property),
+    }
 }
 
 // The property that a line says.
@@ -42,96 +90,30 @@ fn property_of(
     line: usize,
     number: i32,
     text: &str,
-) -> Result<(u32, PropertyValue), Refusal> {
+) -> Result<(u32, PropertyValue), Refusal>
+    ensures { IfOk result (λ property.
+        row_says (datum.number number ∷ datum.text text.now ∷ []) ≡ Some (pair_in property ∷ [])) }
+{
     let number = match u32::try_from(number) {
         Ok(number) => number,
         Err(_) => return wrong(line, 0, Wanted::Property),
     };
+    match value_in(alloc, number, text)? {
+        Some(value) => Ok((number, value)),
+        None => no_value(line, number),
+    }
+}
+
+// What is wanted in place of a text that says no value for its number.
+fn no_value(line: usize, number: u32) -> Result<(u32, PropertyValue), Refusal>
+    ensures { IsErr result }
+{
     match number {
-        2..=9 | 18 => Ok((number, PropertyValue::LpStr(own(alloc, text)?))),
-        1 | 10..=16 | 19 => match value_of(number, text) {
-            Ok(value) => Ok((number, value)),
-            Err(wanted) => wrong(line, 1, wanted),
-        },
+        1 => wrong(line, 1, Wanted::CodePage),
+        10..=13 => wrong(line, 1, Wanted::Moment),
+        14..=16 | 19 => wrong(line, 1, Wanted::Long),
         _ => wrong(line, 0, Wanted::Property),
     }
-}
-
-// The value of a property which is no text; else what is wanted.
-fn value_of(number: u32, text: &str) -> Result<PropertyValue, Wanted> {
-    match number {
-        1 => match page_of(text) {
-            Some(page) => Ok(PropertyValue::I2(page)),
-            None => Err(Wanted::CodePage),
-        },
-        10..=13 => match moment_of(text) {
-            Some(moment) => Ok(PropertyValue::FileTime(moment)),
-            None => Err(Wanted::Moment),
-        },
-        _ => match whole_of(text) {
-            Some(value) => Ok(PropertyValue::I4(value)),
-            None => Err(Wanted::Long),
-        },
-    }
-}
-
-// The number of a code page that is known, as one of 16 bits with a sign. So it may stand in the file, too.
-fn page_of(text: &str) -> Option<i16> {
-    let number = whole_of(text)?;
-    let low = match u16::try_from(if number < 0 {
-        number.saturating_add(65536)
-    } else {
-        number
-    }) {
-        Ok(low) => low,
-        Err(_) => return None,
-    };
-    match CodePage::from_id(i32::from(low)) {
-        Some(_) => Some(low.cast_signed()),
-        None => None,
-    }
-}
-
-// A moment as `2024/09/05 08:53:20`.
-fn moment_of(text: &str) -> Option<Timestamp> {
-    let (day, time) = text.split_once(' ')?;
-    match (date_of(day), time_of(time)) {
-        (Some(date), Some(time)) => Some(stamp_of(date, time)),
-        _ => None,
-    }
-}
-
-fn date_of(text: &str) -> Option<Date> {
-    let (year, rest) = text.split_once('/')?;
-    let (month, day) = rest.split_once('/')?;
-    match (year.parse::<i16>(), month.parse::<i8>(), day.parse::<i8>()) {
-        (Ok(year), Ok(month), Ok(day)) => made(Date::new(year, month, day)),
-        _ => None,
-    }
-}
-
-fn time_of(text: &str) -> Option<Time> {
-    let (hour, rest) = text.split_once(':')?;
-    let (minute, second) = rest.split_once(':')?;
-    match (
-        hour.parse::<i8>(),
-        minute.parse::<i8>(),
-        second.parse::<i8>(),
-    ) {
-        (Ok(hour), Ok(minute), Ok(second)) => made(Time::new(hour, minute, second, 0)),
-        _ => None,
-    }
-}
-
-fn made<T: Drop, E: Drop>(made: Result<T, E>) -> Option<T> {
-    match made {
-        Ok(it) => Some(it),
-        Err(_) => None,
-    }
-}
-
-fn stamp_of(date: Date, time: Time) -> Timestamp {
-    Timestamp::from_unix(DateTime { date, time }.to_second(), 0)
 }
 
 /// Refuses the first text that the summary's own code page lacks.

@@ -84,14 +84,6 @@ fn number_first(line: &[u8]) -> Option<i32> {
     None
 }
 
-/// The whole number that a text says.
-pub(crate) fn whole_of(text: &str) -> Option<i32> {
-    match text.parse::<i32>() {
-        Ok(number) => Some(number),
-        Err(_) => None,
-    }
-}
-
 /// A copy of a text.
 pub(crate) fn own(alloc: Global, text: &str) -> Result<String, AllocError>
     ensures { IfOk result (λ copy. string_bytes copy ≡ text.now) }

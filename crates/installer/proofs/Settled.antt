@@ -1,9 +1,13 @@
 -- Runs that are settled by their commands.
-use Rattle.std.proofs.Common.{◌≡◌, ◌⊎◌, ◌||◌, ◌∙◌, ◌++◌, Bool, List, None, Some, [], ◌∷◌, ap, ap₂, false, inl, inr, not, refl, subst, sym, true, ⊎_elim}
+use Rattle.std.proofs.Common.{◌≡◌, ◌⊎◌, ◌<◌, ◌||◌, ◌∙◌, ◌++◌, arith, length, Bool, List, None, Some, [], ◌∷◌, ap, ap₂, false, inl, inr, not, refl, subst, sym, true, ⊎_elim}
 use Rattle.std.proofs.lemmas.Bool.{both_ways}
-use Rattle.std.specs.Prelude.{bytes_eq, filter, is_none, ℕ, Result, Ok, Err}
+use Rattle.std.proofs.lemmas.Bool.Decides.{nat_tests}
+use Rattle.std.specs.Prelude.{bytes_eq, filter, is_none, nat_lt, ℕ, Result, Ok, Err}
 use Rattle.cfb_medium.specs.declared.error.Error.{Error}
 use Rattle.cfb_medium.specs.declared.error.Error.TheVariants.{AlreadyExists}
+use Rattle.cfb_medium.specs.Versions.{stream_len_mask}
+use Rattle.cfb_medium.specs.declared.version.Version.{Version}
+use Rattle.cfb_medium.specs.declared.version.Version.TheVariants.{V3, V4}
 use Rattle.cfb_spec.specs.TreeRules.{Object}
 use Rattle.cfb_tree.specs.Names.{CaseTable}
 use Rattle.cfb_tree.proofs.OneContent.{Some_same}
@@ -27,8 +31,13 @@ use Rattle.installer.specs.Undisturbed.{AreByRule, GoOn, IsBasedOn, is_by_rule, 
 
 -- ---- replies that a rule gave
 
+-- what is too much for a file of some version is too much for one of version 3
+over_least : (v : Version) (n : ℕ) → stream_len_mask v < n → nat_lt (stream_len_mask V3) n ≡ true
+over_least V3 n less = grind (arith, nat_tests)
+over_least V4 n less = grind (arith, nat_tests)
+
 sized : (P : PackageContent) (request : Request) → IsTooMuch P request → is_sized request ≡ true
-sized P (command.write_stream name content) much = refl
+sized P (command.write_stream name content) much = over_least much.0 (length content) much.1
 sized P command.flush much = refl
 sized P command.commit much = refl
 sized P request much = absurd much

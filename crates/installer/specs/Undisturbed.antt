@@ -1,7 +1,9 @@
 -- Runs in which all went by the rules of packages.
-use Rattle.std.specs.Prelude.{◌≡◌, ◌||◌, Bool, true, false, not, List, [], ◌∷◌, Some}
+use Rattle.std.specs.Prelude.{◌≡◌, ◌||◌, Bool, true, false, not, List, [], ◌∷◌, Some, length, nat_lt}
+use Rattle.cfb_medium.specs.Versions.{stream_len_mask}
 use Rattle.cfb_medium.specs.declared.error.Error.{Error}
 use Rattle.cfb_medium.specs.declared.error.Error.TheVariants.{Device, Failed, Full, InvalidInput, Memory}
+use Rattle.cfb_medium.specs.declared.version.Version.TheVariants.{V3}
 use Rattle.command_file.specs.Request.{Request, is_roll_back, is_writing}
 use Rattle.command_file.specs.Request as command
 use Rattle.cfb_spec.specs.TreeRules.{Object}
@@ -11,9 +13,9 @@ use Rattle.installer.specs.SessionStates.{SessionState, BegunCommit}
 use Rattle.installer.specs.Reply.{Reply}
 use Rattle.installer.specs.Reply as told
 
--- a request that writes a stream, which may have too many bytes for a file of some version
+-- a request that writes a stream which has too many bytes for a file of version 3, or that writes whatever pool and summary the package has
 abbrev pub is_sized : Request → Bool
-is_sized (command.write_stream name content) = true
+is_sized (command.write_stream name content) = nat_lt (stream_len_mask V3) (length content)
 is_sized request = is_writing request
 
 -- an error that no rule of packages gives to such a request: a fault, a session that has failed, or bytes that may be too many

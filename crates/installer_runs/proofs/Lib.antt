@@ -10,3 +10,5 @@ pub mod Refusing
 pub mod Slicing
 pub mod Whole
 pub mod Tallying
+pub mod Put
+pub mod Moved

@@ -4,3 +4,5 @@ pub mod Copying
 pub mod Adopting
 pub mod Faults
 pub mod Tallies
+pub mod Putting
+pub mod Moving

@@ -36,7 +36,7 @@ pub fn create_on<D: Device>(alloc: Global, device: D, letters: CaseMapper) -> (D
 }
 
 // Commits, and gives the device back.
-fn commit_last<D: Device>(session: SessionOver<Staged<D>>) -> (D, Result<(), Error>)
+pub(crate) fn commit_last<D: Device>(session: SessionOver<Staged<D>>) -> (D, Result<(), Error>)
     ensures { CommitsLast result.1 session result.0 }
 {
     let mut session = session;

@@ -51,7 +51,7 @@ module _ (letters : CaseTable) (tree : Tree) (page : CodePage) (P : PackageConte
 -- it is held where the pool in memory is changed so
 pub holds_paged : {F : Type 0} {g : Ghosts F} (old new : Package F g) (page : CodePage) (P : PackageContent) → file_in new ≡ file_in old → tables_in new ≡ tables_in old → kind_in new ≡ kind_in old
     → summary_in new ≡ summary_in old → sound_in new ≡ sound_in old → written_in new ≡ written_in old
-    → pool_in new ≡ record { pool = record (pool_in old).pool { page = page }; modified = true } → PackageHasContent old P → PackageHasContent new (with_page page P)
+    → pool_in new ≡ record (pool_in old) { pool = record (pool_in old).pool { page = page }; modified = true } → PackageHasContent old P → PackageHasContent new (with_page page P)
 holds_paged old new page P file tables kind summary sound written pool h = record {
   tree = h.tree;
   file = rw file h.file;

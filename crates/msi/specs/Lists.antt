@@ -11,7 +11,7 @@ use Rattle.msi.specs.declared.tables.Tables.{Tables}
 
 -- the names of tables that are still to come
 unfoldable pub tables_left : Tables → List (String Global)
-tables_left it = into_iter_items it.left
+tables_left it = it.left.items
 
 -- the names of streams that are still to come
 unfoldable pub streams_left : Streams → List (String Global)

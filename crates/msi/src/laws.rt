@@ -1,8 +1,11 @@
 //! Laws of packages, each the contract of a function that does nothing.
 ghost use Rattle.std.specs.Prelude.{◌≡◌, ℕ, IsTrue, List};
 ghost use Rattle.cfb_medium.specs.declared.error.Error.{Error};
+ghost use Rattle.cfb_medium.specs.declared.version.Version.{Version};
 ghost use Rattle.cfb_tree.specs.Names.{CaseTable};
+ghost use Rattle.msi.specs.Alike.{AnswerAlike, ChangeTheSame, HoldTheSame, letters_in};
 ghost use Rattle.msi.specs.Committing.{BytesHoldPackage};
+ghost use Rattle.msi.specs.Copying.{HoldsPackageCopy};
 ghost use Rattle.msi.specs.Lending.{summed_up, with_summary};
 ghost use Rattle.msi.specs.Opened.{sound_in, summary_in, IsOpenedPackage, AreBytesRejected, IsSoundFile, PackageHasContent};
 ghost use Rattle.msi_spec.specs.Package.{MeansPackage, PackageContent};
@@ -35,4 +38,19 @@ pub fn changed_summaries_are_held<F: ReadMedium>()
         → s.props.sections ≡ 1 → PackageHasContent (with_summary it s) (summed_up s.props P) }
     ensures one { (it : Package F F.ReadMedium) (P : PackageContent) → PackageHasContent it P
         → IsTrue (sound_in it) → (summary_in it).props.sections ≡ 1 }
+{}
+
+/// Two packages that hold the same content, under the same case table, answer each call alike unless a fault comes: over whichever media,
+/// and with whichever buffers. A change gives both the same answer, and leaves both with the same content. So the rows are the same and
+/// each stream has the same bytes; and what is opened of a copy answers as the package that was copied.
+pub fn answers_are_alike<F: ReadMedium, G: ReadMedium>()
+    ensures answers { (a : Package F F.ReadMedium) (b : Package G G.ReadMedium) (P : PackageContent)
+        → HoldTheSame a b P → AnswerAlike a b }
+    ensures changes { (a c : Package F F.ReadMedium) (b d : Package G G.ReadMedium)
+        (P : PackageContent) → HoldTheSame a b P → ChangeTheSame a b c d }
+    ensures copied { (a : Package F F.ReadMedium) (b : Package G G.ReadMedium) (version : Version)
+        (bytes : List ℕ) (P : PackageContent)
+        → PackageHasContent a P → IsTrue (sound_in a)
+        → HoldsPackageCopy version (letters_in a) bytes P
+        → IsOpenedPackage (letters_in a) bytes b → HoldTheSame a b P }
 {}

@@ -11,14 +11,15 @@ ghost use Rattle.msi_tables.specs.Held.{heading_of};
 use cfb_medium::Error;
 use msi_tables::Table;
 use std::alloc::Global;
+use std::collections::VecDeque;
 use std::iter::ExactSizeIterator;
 use std::rc::Rc;
-use std::vec::IntoIter;
 
-/// The names of tables that are still to come. They were made by the call that gave them, so that going on takes no memory.
-#[derive(Drop)]
+/// The names of tables that are still to come. They were made by the call that gave them, so that going on takes no memory. A clone has
+/// the same names to come.
+#[derive(Clone, Drop)]
 pub struct Tables {
-    left: IntoIter<String>,
+    left: VecDeque<String>,
 }
 
 impl Tables {
@@ -30,7 +31,7 @@ impl Tables {
     {
         let names = names_of(alloc, tables)?;
         Ok(Tables {
-            left: names.into_iter(),
+            left: VecDeque::from_vec(names),
         })
     }
 }
@@ -56,7 +57,7 @@ impl Iterator for Tables {
     ghost remaining = { item_count tables_left };
 
     fn next(&mut self) -> Option<String> {
-        self.left.next()
+        self.left.pop_front()
     }
 }
 

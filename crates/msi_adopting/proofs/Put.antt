@@ -34,14 +34,14 @@ object_same : (a b : Object) → Some a ≡ Some b → a ≡ b
 object_same a b e = cc
 
 -- a stream stands at the name
-record HasStreamAt (letters : CaseTable) (tree : Tree) (name : List ℕ) : Type 0 where
-  key : List ℕ
-  bits : ℕ
-  content : List ℕ
-  there : at_name letters (objects tree.content) name ≡ Some (a_stream key bits content)
+pub record HasStreamAt (letters : CaseTable) (tree : Tree) (name : List ℕ) : Type 0 where
+  pub key : List ℕ
+  pub bits : ℕ
+  pub content : List ℕ
+  pub there : at_name letters (objects tree.content) name ≡ Some (a_stream key bits content)
 
 module _ (letters : CaseTable) (tree : Tree) (name : List ℕ) where
-  found : (b : List ℕ) → stream_at letters (objects tree.content) name ≡ Some b → HasStreamAt letters tree name
+  pub found : (b : List ℕ) → stream_at letters (objects tree.content) name ≡ Some b → HasStreamAt letters tree name
   found b is = by (at_name letters (objects tree.content) name) refl
     where
       by : (o : Option Object) → at_name letters (objects tree.content) name ≡ o → HasStreamAt letters tree name
@@ -50,10 +50,10 @@ module _ (letters : CaseTable) (tree : Tree) (name : List ℕ) where
       by (Some (a_stream n s content)) e = record { key = n; bits = s; content = content; there = e }
 
   module _ (bytes : List ℕ) (s : HasStreamAt letters tree name) where
-    outcome : rewriting bytes letters tree (name ∷ []) ≡ (changed letters (with_bytes bytes) (name ∷ []) tree, done)
+    pub outcome : rewriting bytes letters tree (name ∷ []) ≡ (changed letters (with_bytes bytes) (name ∷ []) tree, done)
     outcome = rewritten_there letters tree bytes (name ∷ []) s.key s.bits s.content (at_path letters tree name ∙ s.there)
 
-    is_put : IsStrictlySortedBy (name_cmp letters) (child_names tree.content) → IsPut letters name bytes tree (rewriting bytes letters tree (name ∷ [])).0
+    pub is_put : IsStrictlySortedBy (name_cmp letters) (child_names tree.content) → IsPut letters name bytes tree (rewriting bytes letters tree (name ∷ [])).0
     is_put rising = subst (λ (x : Outcome). IsPut letters name bytes tree x.0) (sym outcome)
         (record {
           root = refl;

@@ -13,13 +13,25 @@ use cfb_medium::{Error, MemoryMedium};
 use msi::Package;
 use std::alloc::Global;
 
-/// A sound package in memory that says this. What was put together is opened as any package, judged and compared: `InvalidData` where it isn't
-/// sound, or says anything else; `InvalidInput` or `Full` where there is too much of something.
+/// A sound package in memory that says this: `said_package` of what is put together here. `InvalidInput` or `Full` where there is too much of
+/// something.
 pub fn built_package(alloc: Global, said: &Said) -> Result<Package<MemoryMedium>, Error>
     ensures { IfOk result (λ it. IsTrue (sound_in it) × (P : PackageContent)
         × PackageHasContent it P × SaysPackage (file_case_table (file_in it)) P said.now) }
 {
-    let medium = assembled(alloc, said)?;
+    said_package(alloc, assembled(alloc, said)?, said)
+}
+
+/// The package of these bytes, whoever wrote them, where it is sound and says this. It is opened as any package, judged and compared:
+/// `InvalidData` where it isn't sound, or says anything else.
+pub fn said_package(
+    alloc: Global,
+    medium: MemoryMedium,
+    said: &Said,
+) -> Result<Package<MemoryMedium>, Error>
+    ensures { IfOk result (λ it. IsTrue (sound_in it) × (P : PackageContent)
+        × PackageHasContent it P × SaysPackage (file_case_table (file_in it)) P said.now) }
+{
     let mut package = opened(alloc, medium)?;
     if !package.is_sound() {
         return Err(Error::InvalidData);

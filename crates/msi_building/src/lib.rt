@@ -14,7 +14,7 @@ mod same;
 mod system;
 mod twice;
 
-pub use building::built_package;
+pub use building::{built_package, said_package};
 pub use once::{has_texts_twice, with_texts_once};
 pub use said::{Said, SaidStream, SaidTable};
 pub use twice::texts_twice;

@@ -13,6 +13,7 @@ pub mod PlaceCounts
 pub mod Refused
 pub mod RowUses
 pub mod Shapes
+pub mod Tested
 pub mod TurnUses
 pub mod Turns
 pub mod UpdateLaw

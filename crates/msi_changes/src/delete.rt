@@ -7,13 +7,14 @@ ghost use Rattle.msi_changes.specs.Applied.{left_of, with_rows};
 ghost use Rattle.msi_changes.specs.Changes.{deleted};
 ghost use Rattle.msi_changes.specs.Prepared.{pool_after, AreChangesFor};
 ghost use Rattle.msi_expr.specs.Conditions.{knows_condition, matches, condition_of, narrowed};
+ghost use Rattle.msi_expr.specs.RowTests.{IsReady, columns_in, condition_in};
 ghost use Rattle.msi_changes.specs.Said.{delete_condition, delete_name};
 ghost use Rattle.msi_tables.specs.Held.{heading_of, rows_held};
 ghost use Rattle.msi_tables.specs.Rows.{AreRowsWritable};
 
 use crate::counting::take_back;
 use cfb_medium::Error;
-use msi_expr::{Expr, fmt_condition, knows_condition, matches, narrowed_condition};
+use msi_expr::{Expr, RowTest, fmt_condition, knows_condition, narrowed_condition};
 use msi_pool::{Draft, PoolChanges, StringPool, ValueRef};
 use msi_tables::Table;
 use std::alloc::Global;
@@ -148,7 +149,6 @@ impl Delete {
 
 // The rows for which the condition counts as false; the texts of the others are taken back. `InvalidData` where one has no
 // use to take back.
-#[tactic(auto, using(crate::proofs::Deleting::kept, crate::proofs::Deleting::taken, crate::proofs::Deleting::unused, crate::proofs::Deleting::done, crate::proofs::Deleting::at_first))]
 fn rows_left(
     alloc: Global,
     pool: &StringPool,
@@ -166,9 +166,30 @@ fn rows_left(
     ensures marked { counted.new.state.modified ≡ false → counted.new.state ≡ counted.old.state }
     ensures under { counted.new.under ≡ counted.old.under }
 {
+    let test = RowTest::new(alloc, table, condition)?;
+    rows_failing(alloc, pool, &test, rows, counted)
+}
+
+// The same of the rows that don't pass a test.
+#[tactic(auto, using(crate::proofs::Deleting::kept, crate::proofs::Deleting::taken, crate::proofs::Deleting::unused, crate::proofs::Deleting::done, crate::proofs::Deleting::at_first))]
+fn rows_failing(
+    alloc: Global,
+    pool: &StringPool,
+    test: &RowTest<'_>,
+    rows: Vec<Vec<ValueRef>>,
+    counted: &mut Draft<'_>,
+) -> Result<Vec<Vec<ValueRef>>, Error>
+    requires { IsReady test.now }
+    ensures left { ReturnsOrOutOfMemory
+        (λ left. (rows_held left.items, counted.new.state.pool)) result
+        (left_of (matches pool.now.pool (columns_in test.now) (condition_in test.now))
+        counted.old.state.pool (rows_held rows.items)) }
+    ensures marked { counted.new.state.modified ≡ false → counted.new.state ≡ counted.old.state }
+    ensures under { counted.new.under ≡ counted.old.under }
+{
     let mut left = Vec::new(alloc);
     for row in rows {
-        if matches(alloc, pool, table, condition, &row)? {
+        if test.passes(alloc, pool, &row)? {
             match take_back(counted, &row) {
                 Err(error) => return Err(error),
                 Ok(()) => {}

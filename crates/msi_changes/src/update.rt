@@ -11,6 +11,7 @@ ghost use Rattle.msi_changes.specs.Changes.{key_after, keys_after, rows_set, upd
 ghost use Rattle.msi_changes.specs.Keys.{keys_said};
 ghost use Rattle.msi_changes.specs.Prepared.{pool_after, AreChangesFor};
 ghost use Rattle.msi_expr.specs.Conditions.{knows_condition, matches, condition_of, narrowed};
+ghost use Rattle.msi_expr.specs.RowTests.{IsReady, IsTestOf, columns_in, condition_in};
 ghost use Rattle.msi_changes.specs.Said.{sets_of, update_condition, update_name, update_sets};
 ghost use Rattle.msi_tables.specs.Held.{heading_of, rows_held};
 ghost use Rattle.msi_tables.specs.Rows.{AreRowsWritable};
@@ -19,7 +20,7 @@ use crate::keys::{key_of, key_set, values_of};
 use crate::printing::fmt_sets;
 use crate::setting::{are_sets, set_cells, set_values, sets_key};
 use cfb_medium::Error;
-use msi_expr::{Expr, fmt_condition, knows_condition, matches, narrowed_condition};
+use msi_expr::{Expr, RowTest, fmt_condition, knows_condition, narrowed_condition};
 use msi_pool::{Draft, PoolChanges, StringPool, ValueRef};
 use msi_tables::Table;
 use msi_values::{BorrowedValue, Value};
@@ -240,9 +241,10 @@ fn keys_after<'a>(
         (rows_held rows.now)) (sets_of sets.now) (condition_of condition.now)) }
     ensures errors { IfErr result (λ e. e ≡ Memory) }
 {
+    let test = RowTest::new(alloc, table, condition)?;
     let mut keys = Vec::new(alloc);
     for row in rows {
-        keys.push(key_after(alloc, pool, table, row, sets, condition)?)?;
+        keys.push(key_after(alloc, pool, table, row, sets, &test)?)?;
     }
     Ok(keys)
 }
@@ -254,17 +256,17 @@ fn key_after<'a>(
     table: &Rc<Table>,
     row: &[ValueRef],
     sets: &'a [(String, Value)],
-    condition: &Option<Expr>,
+    test: &RowTest<'_>,
 ) -> Result<Vec<BorrowedValue<'a>>, Error>
-    requires { IsTrue (knows_condition (heading_of (rc_value table.now)).columns
-        (condition_of condition.now)) }
+    requires { IsTestOf (heading_of (rc_value table.now)).columns (condition_in test.now)
+        test.now }
     ensures ok { IfOk result (λ key. borrowed_data key.items
         ≡ key_after pool.now.pool (heading_of (rc_value table.now)).columns (sets_of sets.now)
-        (condition_of condition.now) row.now) }
+        (condition_in test.now) row.now) }
     ensures errors { IfErr result (λ e. e ≡ Memory) }
 {
     let mut values = values_of(alloc, pool, row)?;
-    if matches(alloc, pool, table, condition, row)? {
+    if test.passes(alloc, pool, row)? {
         set_values(table, &mut values, sets);
     }
     key_of(alloc, table.columns(), &values)
@@ -291,10 +293,33 @@ fn set_rows(
     ensures marked { counted.new.state.modified ≡ false → counted.new.state ≡ counted.old.state }
     ensures under { counted.new.under ≡ counted.old.under }
 {
+    let test = RowTest::new(alloc, table, condition)?;
+    rows_set(alloc, pool, table, rows, counted, sets, &test)
+}
+
+// The same for the rows that pass a test.
+fn rows_set(
+    alloc: Global,
+    pool: &StringPool,
+    table: &Table,
+    rows: Vec<Vec<ValueRef>>,
+    counted: &mut Draft<'_>,
+    sets: &[(String, Value)],
+    test: &RowTest<'_>,
+) -> Result<Vec<Vec<ValueRef>>, Error>
+    requires { IsReady test.now }
+    ensures sets { ReturnsOrOutOfMemory
+        (λ after. (rows_held after.items, counted.new.state.pool)) result
+        (rows_set (heading_of table.now).columns counted.old.state.pool (sets_of sets.now)
+        (judged (matches pool.now.pool (columns_in test.now) (condition_in test.now))
+        (rows_held rows.items))) }
+    ensures marked { counted.new.state.modified ≡ false → counted.new.state ≡ counted.old.state }
+    ensures under { counted.new.under ≡ counted.old.under }
+{
     let mut after = Vec::new(alloc);
     for row in rows {
         let mut row = row;
-        if matches(alloc, pool, table, condition, &row)? {
+        if test.passes(alloc, pool, &row)? {
             set_cells(alloc, table, counted, &mut row, sets)?;
         }
         after.push(row)?;

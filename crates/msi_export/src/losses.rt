@@ -1,9 +1,8 @@
 //! What isn't read back from an export as it was.
 use crate::order::compare_keys;
-use crate::rows::is_key;
-use crate::summary::{date_of, is_exported};
 use cfb_medium::Timestamp;
 use idt_rows::comes_back;
+use idt_summaries::{date_of, is_exported};
 use msi_props::PropertyValue;
 use msi_tables::Row;
 use msi_values::Value;
@@ -19,7 +18,7 @@ pub enum Loss {
     StandIn,
     /// A text with the character that is read in place of bytes that its code page lacks.
     Replaced,
-    /// A null of a key.
+    /// A null of a key whose column takes none.
     NullKey,
     /// A key that the row before has, too.
     SameKey,
@@ -37,7 +36,7 @@ impl Loss {
                 "a text with one of the characters 16, 17, 21, 24, 25 and 27, which stand for others there",
             Loss::Replaced =>
                 "a text with U+FFFD, which may stand for bytes that the code page lacks",
-            Loss::NullKey => "null in a key, which readers of exports refuse",
+            Loss::NullKey => "null in a key that takes none, which readers of exports refuse",
             Loss::SameKey => "a key that the row before has, too, which readers of exports refuse",
             Loss::Fraction => "a fraction of a second, which is left out",
             Loss::Unwritten => "it is left out, since readers of exports refuse it",
@@ -58,7 +57,7 @@ pub fn loss_of_row(rows: &[Row], at: usize) -> Option<(usize, Loss)> {
         return Some((0, Loss::SameKey));
     }
     for place in 0..row.len() {
-        if let Some(loss) = loss_of_value(row.value(place), is_key(row, place)) {
+        if let Some(loss) = loss_of_value(row.value(place), is_key_without_null(row, place)) {
             return Some((place, loss));
         }
     }
@@ -73,9 +72,17 @@ fn has_key_before(rows: &[Row], at: usize) -> bool {
     }
 }
 
-fn loss_of_value(value: Option<&Value>, is_key: bool) -> Option<Loss> {
+// Whether the value at a place belongs to the key, and its column takes no null.
+fn is_key_without_null(row: &Row, place: usize) -> bool {
+    match row.columns().get(place) {
+        Some(column) => column.is_primary_key() && !column.is_nullable(),
+        None => false,
+    }
+}
+
+fn loss_of_value(value: Option<&Value>, is_key_without_null: bool) -> Option<Loss> {
     match value {
-        Some(Value::Null) if is_key => Some(Loss::NullKey),
+        Some(Value::Null) if is_key_without_null => Some(Loss::NullKey),
         Some(Value::Str(text)) if text.is_empty() => Some(Loss::EmptyText),
         Some(Value::Str(text)) => loss_of_text(text),
         _ => None,

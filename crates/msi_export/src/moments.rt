@@ -1,6 +1,6 @@
 //! Moments as people write them: ISO 8601, in UTC.
-use crate::summary::date_of;
 use cfb_medium::Timestamp;
+use idt_summaries::date_of;
 use jiff_core::civil::{Date, DateTime, Time};
 use std::alloc::{AllocError, Global};
 

@@ -1,4 +1,5 @@
 pub mod FilledUp
 pub mod Knowing
 pub mod Names
+pub mod RowTests
 pub mod WorkedExpressions

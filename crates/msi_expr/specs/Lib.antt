@@ -1,4 +1,5 @@
 pub mod Conditions
 pub mod Formula
 pub mod Printed
+pub mod RowTests
 pub mod Worths

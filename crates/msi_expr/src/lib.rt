@@ -9,8 +9,10 @@ mod laws;
 mod matching;
 mod operators;
 mod record;
+mod row_test;
 
 pub use condition::{fmt_condition, narrowed_condition};
 pub use expr::Expr;
 pub use laws::folding_keeps_the_worth;
-pub use matching::{holds, knows, knows_condition, matches};
+pub use matching::{holds, knows, knows_condition};
+pub use row_test::RowTest;

@@ -49,27 +49,6 @@ fn has_columns(table: &Table, names: &[&str]) -> bool
     names.iter().all(|name| table.has_column(name))
 }
 
-/// Whether the condition counts as true of the row. The one error is `Memory`.
-pub fn matches(
-    alloc: Global,
-    pool: &StringPool,
-    table: &Rc<Table>,
-    condition: &Option<Expr>,
-    row: &[ValueRef],
-) -> Result<bool, Error>
-    requires { IsTrue (knows_condition (heading_of (rc_value table.now)).columns
-        (condition_of condition.now)) }
-    ensures ok { IfOk result (λ holds. holds
-        ≡ matches pool.now.pool (heading_of (rc_value table.now)).columns
-        (condition_of condition.now) row.now) }
-    ensures errors { IfErr result (λ e. e ≡ Memory) }
-{
-    match condition {
-        None => Ok(true),
-        Some(expr) => holds(alloc, pool, table, expr, row),
-    }
-}
-
 /// Whether the expression counts as true on the row. The one error is `Memory`.
 pub fn holds(
     alloc: Global,

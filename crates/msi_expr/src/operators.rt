@@ -1,7 +1,7 @@
 //! Operators: what they make of values, how they are written, how strongly they bind.
 ghost use Rattle.std.specs.Prelude.{◌≡◌, ◌≤◌, IfOk, MatchOption, Some, None};
 ghost use Rattle.msi_values.specs.Borrowed.{borrowed_datum};
-ghost use Rattle.msi_values.specs.Datum.{null, number, datum_of};
+ghost use Rattle.msi_values.specs.Datum.{counts_as_true, null, number, datum_of};
 ghost use Rattle.msi_expr.specs.Formula.{one_applied, two_applied, strength, sign_of, prefix_of, count_of, is_equality, IsArithmetic};
 
 use msi_values::{BorrowedValue, Value};
@@ -117,6 +117,27 @@ impl BinOp {
                 _ => Ok(Value::Null),
             },
         }
+    }
+
+    // Whether what it makes of two values counts as true. A comparison makes no value.
+    pub(crate) fn holds(
+        self,
+        alloc: Global,
+        arg1: BorrowedValue<'_>,
+        arg2: BorrowedValue<'_>,
+    ) -> Result<bool, AllocError>
+        ensures { IfOk result (λ holds. holds ≡ counts_as_true
+            (two_applied self (borrowed_datum arg1.entry) (borrowed_datum arg2.entry))) }
+    {
+        Ok(match self {
+            BinOp::Eq => arg1.compare(arg2).is_eq(),
+            BinOp::Ne => arg1.compare(arg2).is_ne(),
+            BinOp::Lt => arg1.compare(arg2).is_lt(),
+            BinOp::Le => arg1.compare(arg2).is_le(),
+            BinOp::Gt => arg1.compare(arg2).is_gt(),
+            BinOp::Ge => arg1.compare(arg2).is_ge(),
+            _ => self.apply(alloc, arg1, arg2)?.as_borrowed().to_bool(),
+        })
     }
 
     fn apply_numbers(self, number1: i32, number2: i32) -> Value

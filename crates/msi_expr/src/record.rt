@@ -91,7 +91,11 @@ impl Record for StoredRow<'_> {
 }
 
 // The value at a place of a row; past its end null.
-fn value_at<'a>(pool: &'a StringPool, cells: &[ValueRef], place: usize) -> BorrowedValue<'a>
+pub(crate) fn value_at<'a>(
+    pool: &'a StringPool,
+    cells: &[ValueRef],
+    place: usize,
+) -> BorrowedValue<'a>
     ensures { borrowed_datum result ≡ slice_index_or (row_data pool.now.pool cells.now) place null }
 {
     cells

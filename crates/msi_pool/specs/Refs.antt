@@ -40,7 +40,7 @@ cell_of pool binary = Some cell.Binary
 
 -- the pool once the value's text is counted
 abbrev pub with_value : PoolState → Datum → PoolState
-with_value s (text t) = changed_to (used s.pool t)
+with_value s (text t) = changed_to s.steps (used s.pool t)
 with_value s _ = s
 
 -- the place of a cell's text has a use
@@ -50,7 +50,7 @@ is_counted pool _ = true
 
 -- the pool once the use of a cell's text is taken back
 abbrev pub without_value : PoolState → ValueRef → PoolState
-without_value s (cell.Str n) = changed_to (record s.pool { places = with_refcount_down n s.pool.places })
+without_value s (cell.Str n) = changed_to s.steps (record s.pool { places = with_refcount_down n s.pool.places })
 without_value s _ = s
 
 -- the value of a cell

@@ -31,7 +31,7 @@ impl Model for ReadyPool {
 
     ghost Value = { ReadyState };
 
-    ghost view = { λ p. record { state = record { pool = record { page = p.head.codepage; long = p.head.long_string_refs; places = p.places.places }; modified = p.head.is_modified }; next = record { pool = record { page = p.next.codepage; long = p.next.long_string_refs; places = p.places.next }; modified = p.next.is_modified } } };
+    ghost view = { λ p. record { state = record { pool = record { page = p.head.codepage; long = p.head.long_string_refs; places = p.places.places }; modified = p.head.is_modified; steps = p.places.steps }; next = record { pool = record { page = p.next.codepage; long = p.next.long_string_refs; places = p.places.next }; modified = p.next.is_modified; steps = p.places.next_steps } } };
 }
 
 impl StringPool {

@@ -1,17 +1,17 @@
 //! The string pool: texts, each with the number of its uses.
-ghost use Rattle.std.specs.Prelude.{◌≡◌, ◌↔◌, ◌⊎◌, ◌+◌, ◌<◌, ◌^◌, ◌++◌, ◌||◌, ◌==◌, not, [], true, false, IsTrue, nat_lt, map, take, length, Some, None, IfOk, OnOk, OnErr, IfErr, IsErrOf, string_bytes};
+ghost use Rattle.std.specs.Prelude.{◌≡◌, ◌↔◌, ◌⊎◌, ◌+◌, ◌<◌, ◌≤◌, ◌^◌, ◌++◌, ◌||◌, ◌==◌, not, [], true, false, IsTrue, nat_lt, map, take, length, Some, None, IfOk, OnOk, OnErr, IfErr, IsErrOf, string_bytes};
 ghost use Rattle.std.specs.List.{flat_map, list_all};
 ghost use Rattle.msi_texts.specs.Page.{encoded};
 ghost use Rattle.msi_pool.specs.Pool.{place, last_place, with_refcount_down, pool_entry_at, places_of, used, head_bytes, head_of, stored_place, pool_stream, data_stream, width_bit};
 ghost use Rattle.msi_pool.specs.PoolDraft.{AreChangesOver, adopted};
 ghost use Rattle.msi_pool.specs.PoolKept.{AreFreeEmpty, AreKept, IsKeptPlace, IsWritable, is_unfit, unfit_among};
-ghost use Rattle.msi_pool.specs.PoolState.{changed_to, is_in_size, length_limit};
+ghost use Rattle.msi_pool.specs.PoolState.{after_steps, changed_to, is_in_size, length_limit};
 ghost use Rattle.cfb_medium.specs.declared.error.Error.TheVariants.{InvalidInput, InvalidData, Memory};
 
 use crate::draft::{Draft, PoolChanges};
 use crate::stringref::StringRef;
 use cfb_medium::Error;
-use msi_pool_index::Places;
+use msi_pool_index::{Places, PoolParts, StdParts};
 use msi_texts::{CodePage, write_u16, write_u32};
 use std::alloc::{AllocError, Global};
 use std::marker::Model;
@@ -29,28 +29,28 @@ pub(crate) const LONG_STRING_REFS_BIT: u32 = 0x8000_0000;
 const LENGTH_LIMIT: usize = 4294967295;
 
 /// The string pool of a package: texts at places from 1 on, each with the number of its uses. A place
-/// without a use is free.
+/// without a use is free. Its parts are those of std, or whatever else meets `PoolParts`.
 #[derive(Drop)]
-pub struct StringPool {
+pub struct StringPool<P: PoolParts = StdParts> {
     pub(crate) codepage: CodePage,
     pub(crate) long_string_refs: bool,
-    pub(crate) places: Places,
+    pub(crate) places: Places<P>,
     pub(crate) is_modified: bool,
 }
 
-impl Model for StringPool {
+impl<P: PoolParts> Model for StringPool<P> {
     ghost use Rattle.msi_pool.specs.Pool.{Pool};
     ghost use Rattle.msi_pool.specs.PoolState.{PoolState};
 
     ghost Value = { PoolState };
 
-    ghost view = { λ p. record { pool = record { page = p.codepage; long = p.long_string_refs; places = p.places.places }; modified = p.is_modified } };
+    ghost view = { λ p. record { pool = record { page = p.codepage; long = p.long_string_refs; places = p.places.places }; modified = p.is_modified; steps = p.places.steps } };
 }
 
 impl StringPool {
-    /// An empty pool, whose references take two bytes.
+    /// An empty pool, whose references take two bytes, on which no step was taken.
     pub fn new(alloc: Global, codepage: CodePage) -> StringPool
-        ensures { result ≡ changed_to (record { page = codepage; long = false; places = [] }) }
+        ensures { result ≡ changed_to 0 (record { page = codepage; long = false; places = [] }) }
     {
         StringPool {
             codepage,
@@ -77,6 +77,7 @@ impl StringPool {
                     strings.items;
               };
               modified = false;
+              steps = 0;
             }) }
         ensures errors { IfErr result (λ e. e ≡ Memory) }
     {
@@ -103,6 +104,7 @@ impl StringPool {
                 places = places.places;
               };
               modified = is_modified;
+              steps = places.steps;
             } }
     {
         StringPool {
@@ -127,7 +129,8 @@ impl StringPool {
         )
     }
 
-    /// Takes over what a draft changed. After Memory, the one error, the pool is as it was.
+    /// Takes over what a draft changed, with the count of steps that there was when the draft was made. After Memory, the one
+    /// error, the pool is as it was.
     pub fn adopt(&mut self, changes: PoolChanges) -> Result<(), Error>
         requires { AreChangesOver self.old.pool.places changes }
         ensures ok { OnOk result (self.new ≡ adopted self.old.pool.places changes) }
@@ -150,7 +153,7 @@ impl StringPool {
 
     /// Sets the page under which the texts are written.
     pub fn set_codepage(&mut self, codepage: CodePage)
-        ensures { self.new ≡ changed_to (record self.old.pool { page = codepage }) }
+        ensures { self.new ≡ changed_to self.old.steps (record self.old.pool { page = codepage }) }
     {
         self.mark_modified();
         self.codepage = codepage;
@@ -182,13 +185,6 @@ impl StringPool {
         ensures { self.new ≡ record self.old { modified = false } }
     {
         self.is_modified = false;
-    }
-
-    // Notes that the pool may differ from its streams.
-    fn mark_modified(&mut self)
-        ensures { self.new ≡ changed_to self.old.pool }
-    {
-        self.is_modified = true;
     }
 
     /// The text at a place; past the last the empty text.
@@ -244,41 +240,6 @@ impl StringPool {
         first_unfit(alloc, self.codepage, self.places.list(), most)
     }
 
-    /// Counts a use of the text at the least place that is free or holds it with a count below 65535,
-    /// else at a new place, and tells where. InvalidInput where no reference could name that place;
-    /// then, and after Memory, nothing changed.
-    pub fn incref(&mut self, text: String) -> Result<StringRef, Error>
-        ensures place { IfOk result (λ n. place self.old.pool (string_bytes text) ≡ Some n) }
-        ensures counted { OnOk result (self.new
-            ≡ changed_to (used self.old.pool (string_bytes text))) }
-        ensures full_only_if { IsErrOf result InvalidInput
-            ↔ (place self.old.pool (string_bytes text) ≡ None) }
-        ensures errors { IfErr result (λ e. (e ≡ Memory) ⊎ (e ≡ InvalidInput)) }
-        ensures after_error { OnErr result (self.new ≡ self.old) }
-    {
-        let number = self.places.incref(text, last_place(self.long_string_refs))?;
-        self.mark_modified();
-        Ok(StringRef::new(number))
-    }
-
-    /// Takes back a use at a place. The last takes the text with it. InvalidData where the place has no
-    /// use; then, and after Memory, nothing changed.
-    pub fn decref(&mut self, string_ref: StringRef) -> Result<(), Error>
-        ensures ok { OnOk result (self.new
-            ≡ changed_to (record self.old.pool {
-              places = with_refcount_down string_ref
-                  self.old.pool.places;
-            })) }
-        ensures unused { IsErrOf result InvalidData
-            ↔ ((pool_entry_at self.old.pool.places string_ref).count ≡ 0) }
-        ensures errors { IfErr result (λ e. (e ≡ Memory) ⊎ (e ≡ InvalidData)) }
-        ensures after_error { OnErr result (self.new ≡ self.old) }
-    {
-        self.places.decref(string_ref.number() - 1)?;
-        self.mark_modified();
-        Ok(())
-    }
-
     /// Appends the pool stream: the page, the width of references, and the length and the count of each
     /// place. InvalidInput where the stream or a text would reach 4294967295 bytes; then, and after
     /// Memory, nothing is appended.
@@ -314,6 +275,52 @@ impl StringPool {
     {
         let bytes = text_bytes(*writer.allocator(), self.codepage, self.places.list())?;
         writer.extend_from_slice(bytes.as_slice())?;
+        Ok(())
+    }
+}
+
+impl<P: PoolParts> StringPool<P> {
+    // Notes that the pool may differ from its streams.
+    fn mark_modified(&mut self)
+        ensures { self.new ≡ changed_to self.old.steps self.old.pool }
+    {
+        self.is_modified = true;
+    }
+
+    /// Counts a use of the text at the least place that is free or holds it with a count below 65535,
+    /// else at a new place, and tells where, in at most sixteen steps. InvalidInput where no reference could name that place;
+    /// then, and after Memory, nothing changed but the count of steps.
+    pub fn incref(&mut self, text: String) -> Result<StringRef, Error>
+        ensures place { IfOk result (λ n. place self.old.pool (string_bytes text) ≡ Some n) }
+        ensures counted { OnOk result (self.new
+            ≡ changed_to self.new.steps (used self.old.pool (string_bytes text))) }
+        ensures full_only_if { IsErrOf result InvalidInput
+            ↔ (place self.old.pool (string_bytes text) ≡ None) }
+        ensures errors { IfErr result (λ e. (e ≡ Memory) ⊎ (e ≡ InvalidInput)) }
+        ensures after_error { OnErr result (self.new ≡ after_steps self.new.steps self.old) }
+        ensures steps { self.new.steps ≤ self.old.steps + 16 }
+    {
+        let number = self.places.incref(text, last_place(self.long_string_refs))?;
+        self.mark_modified();
+        Ok(StringRef::new(number))
+    }
+
+    /// Takes back a use at a place, in at most sixteen steps. The last takes the text with it. InvalidData where the place has
+    /// no use; then, and after Memory, nothing changed but the count of steps.
+    pub fn decref(&mut self, string_ref: StringRef) -> Result<(), Error>
+        ensures ok { OnOk result (self.new
+            ≡ changed_to self.new.steps (record self.old.pool {
+              places = with_refcount_down string_ref
+                  self.old.pool.places;
+            })) }
+        ensures unused { IsErrOf result InvalidData
+            ↔ ((pool_entry_at self.old.pool.places string_ref).count ≡ 0) }
+        ensures errors { IfErr result (λ e. (e ≡ Memory) ⊎ (e ≡ InvalidData)) }
+        ensures after_error { OnErr result (self.new ≡ after_steps self.new.steps self.old) }
+        ensures steps { self.new.steps ≤ self.old.steps + 16 }
+    {
+        self.places.decref(string_ref.number() - 1)?;
+        self.mark_modified();
         Ok(())
     }
 }

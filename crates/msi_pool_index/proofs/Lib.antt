@@ -6,3 +6,5 @@ pub mod Laid
 pub mod Rooms
 pub mod Fresh
 pub mod Adopted
+pub mod AfterSteps
+mod StepWalks

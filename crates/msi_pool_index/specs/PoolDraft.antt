@@ -8,7 +8,7 @@ use Rattle.std.specs.declared.collections.BTreeMap.{BTreeMap}
 use Rattle.std.specs.declared.collections.BTreeSet.{BTreeSet}
 use Rattle.msi_pool_index.specs.declared.draftparts.Changes.{Changes}
 use Rattle.msi_pool_index.specs.Places.{PoolEntry, empty_pool_entry, place_of, places_of}
-use Rattle.msi_pool_index.specs.PoolIndex.{PoolIndexParts, PoolIndexMatches, is_free, is_roomy, passes_at}
+use Rattle.msi_pool_index.specs.PoolIndex.{PoolIndexParts, PoolIndexMatches, UnderlyingPlaces, is_free, is_roomy, passes_at}
 use Rattle.msi_pool_index.specs.PoolParts.{has_place}
 
 -- the list with what stands at some of its places now
@@ -36,11 +36,15 @@ takes_place o = option_map_or (λ p. not (is_free p)) o false
 abbrev pub over : List PoolEntry → Changes → PoolIndexParts
 over ps c = record {
   places = laid (place_in c.changed) ps ++ places_of c.added.items;
-  under = ps;
+  under = record { places = ps; steps = 0 };
   free = λ i. has_place c.given i || (passes_at is_free ps i && nat_le c.passed i);
   room = room_over c.room ps;
   steps = 0;
 }
+
+-- the same, with the steps that were taken on the list and on the draft
+abbrev pub drafted : UnderlyingPlaces → Changes → ℕ → PoolIndexParts
+drafted base c steps = record (over base.places c) { under = base; steps = steps }
 
 -- the draft holds the place, and the places of its text
 pub record DraftHoldsPlace (ps : List PoolEntry) (c : Changes) (i : ℕ) : Type 0 where

@@ -2,10 +2,19 @@
 use Rattle.std.specs.Prelude.{◌≡◌, ℕ, zero, suc, ◌+◌, ◌<◌, ◌≤◌, ◌^◌, Bool, true, false, not, ◌&&◌, List, [], ◌∷◌, length, nat_lt, ◌==◌, if◌then◌else◌, bytes_eq, Option, IfSome, IfNone}
 use Rattle.msi_pool_index.specs.Places.{PoolEntry}
 
+-- a list, and the steps that were taken on it
+pub record UnderlyingPlaces : Type 0 where
+  pub places : List PoolEntry
+  pub steps : ℕ
+
+-- no list
+abbrev pub none_under : UnderlyingPlaces
+none_under = record { places = []; steps = 0 }
+
 -- the list, the set and the map, each as what a look-up in it tells; the list that they lie over, which no call changes; and the steps that were taken on them
 pub record PoolIndexParts : Type 0 where
   pub places : List PoolEntry
-  pub under : List PoolEntry
+  pub under : UnderlyingPlaces
   pub free : ℕ → Bool
   pub room : List ℕ → ℕ → Bool
   pub steps : ℕ
@@ -63,7 +72,7 @@ pub record IsLeast (passes : ℕ → Bool) (found : Option ℕ) : Type 0 where
 -- the list of places as contracts see it, the list that they lie over, and the steps that were taken
 pub record Counted : Type 0 where
   pub places : List PoolEntry
-  pub under : List PoolEntry
+  pub under : UnderlyingPlaces
   pub steps : ℕ
 
 -- the parts as contracts see them

@@ -1,5 +1,5 @@
 -- What an ordered set and an ordered map of std tell of places.
-use Rattle.std.specs.Prelude.{ℕ, List, [], Bool, false, String}
+use Rattle.std.specs.Prelude.{ℕ, List, Bool, false, String}
 use Rattle.std.specs.Option.{option_map_or}
 use Rattle.std.specs.BTreeMap.{get_by_text}
 use Rattle.std.specs.BTreeSet.{contains}
@@ -8,7 +8,7 @@ use Rattle.std.specs.declared.alloc.Global.{Global}
 use Rattle.std.specs.declared.collections.BTreeMap.{BTreeMap}
 use Rattle.std.specs.declared.collections.BTreeSet.{BTreeSet}
 use Rattle.msi_pool_index.specs.Places.{PoolEntry}
-use Rattle.msi_pool_index.specs.PoolIndex.{PoolIndexParts}
+use Rattle.msi_pool_index.specs.PoolIndex.{PoolIndexParts, none_under}
 
 -- the place is in the set
 abbrev pub has_place : BTreeSet ℕ Global → ℕ → Bool
@@ -18,6 +18,6 @@ has_place set i = contains nat_cmp set i
 abbrev pub has_room : BTreeMap (String Global) (BTreeSet ℕ Global) Global → List ℕ → ℕ → Bool
 has_room map t i = option_map_or (λ s. contains nat_cmp s i) (get_by_text map t) false
 
--- the three parts of a pool in memory, which lie over nothing
-abbrev pub parts_of : List PoolEntry → BTreeSet ℕ Global → BTreeMap (String Global) (BTreeSet ℕ Global) Global → PoolIndexParts
-parts_of places free room = record { places = places; under = []; free = has_place free; room = has_room room; steps = 0 }
+-- the three parts of a pool in memory, which lie over nothing, after so many steps
+abbrev pub parts_of : List PoolEntry → BTreeSet ℕ Global → BTreeMap (String Global) (BTreeSet ℕ Global) Global → ℕ → PoolIndexParts
+parts_of places free room steps = record { places = places; under = none_under; free = has_place free; room = has_room room; steps = steps }

@@ -10,10 +10,12 @@ use Rattle.msi_pool_index.specs.PoolDraft.{AreChangesOf}
 use Rattle.msi_pool_index.specs.PoolIndex.{is_free, is_roomy, passes_at}
 use Rattle.msi_pool_index.specs.PoolParts.{has_place, has_room}
 
--- the places as they are, and as they are once the changes are taken over
+-- the places as they are with the steps that were taken on them, and both once the changes are taken over
 pub record Ready : Type 0 where
   pub places : List PoolEntry
+  pub steps : ℕ
   pub next : List PoolEntry
+  pub next_steps : ℕ
 
 -- the set has the free places and those that become free, the map has every text that was touched, and the list has room for what is added
 pub record PlacesHaveRoom (list : Vec (String Global × ℕ) Global) (free : BTreeSet ℕ Global) (room : BTreeMap (String Global) (BTreeSet ℕ Global) Global) (c : Changes) : Type 0 where

@@ -9,6 +9,7 @@ ghost use Rattle.msi_pool_index.specs.PoolDraft.{laid, place_in, room_over};
 
 use crate::parts::{PoolParts, least, take_one};
 use crate::places::Places;
+use crate::steps::Steps;
 use cfb_medium::Error;
 use std::alloc::Global;
 use std::collections::{BTreeMap, BTreeSet};
@@ -26,6 +27,8 @@ pub struct Changes {
     pub(crate) passed: u32,
     // Of each text that was touched, all places with room for one more use.
     pub(crate) room: BTreeMap<String, BTreeSet<u32>>,
+    // The steps that were taken on the list below this one.
+    pub(crate) below: Steps,
 }
 
 /// The list, set and map of a draft: what changed, over places that it borrows. The first change of a text copies the set of
@@ -34,12 +37,13 @@ pub struct Changes {
 pub struct DraftParts<'a> {
     pub(crate) base: &'a Places,
     pub(crate) changes: Changes,
+    pub(crate) steps: Steps,
 }
 
 impl<'a> PoolParts for DraftParts<'a> {
-    ghost use Rattle.msi_pool_index.specs.PoolDraft.{DraftHoldsPlace, over};
+    ghost use Rattle.msi_pool_index.specs.PoolDraft.{DraftHoldsPlace, drafted};
 
-    ghost seen = { λ d. over d.base.now.places d.changes };
+    ghost seen = { λ d. drafted (record { places = d.base.now.places; steps = d.base.now.steps }) d.changes d.steps.count };
 
     ghost is_ready = { λ d i. DraftHoldsPlace d.base.now.places d.changes i };
 
@@ -48,6 +52,7 @@ impl<'a> PoolParts for DraftParts<'a> {
     }
 
     fn count(&mut self, index: u32) -> u16 {
+        self.steps = self.steps.and(&1);
         match place_at(self.base, &self.changes.changed, &self.changes.added, index) {
             Some((_, count)) => *count,
             None => 0,
@@ -55,11 +60,13 @@ impl<'a> PoolParts for DraftParts<'a> {
     }
 
     fn least_free(&mut self) -> Option<u32> {
+        self.steps = self.steps.and(&1);
         let given = least(&self.changes.given);
         lesser(given, self.base.next_free(self.changes.passed))
     }
 
     fn least_with_room(&mut self, text: &str) -> Option<u32> {
+        self.steps = self.steps.and(&2);
         match self.changes.room.get(text) {
             Some(places) => least(places),
             None => self.base.least_with_room(text),
@@ -67,6 +74,7 @@ impl<'a> PoolParts for DraftParts<'a> {
     }
 
     fn make_ready(&mut self, index: u32) -> Result<(), Error> {
+        self.steps = self.steps.and(&4);
         let alloc = *self.changes.added.allocator();
         hold_place(alloc, self.base, &mut self.changes.changed, index)?;
         match place_at(self.base, &self.changes.changed, &self.changes.added, index) {
@@ -76,11 +84,13 @@ impl<'a> PoolParts for DraftParts<'a> {
     }
 
     fn add_free(&mut self, index: u32) -> Result<(), Error> {
+        self.steps = self.steps.and(&1);
         let _ = self.changes.given.insert(index)?;
         Ok(())
     }
 
     fn remove_free(&mut self, index: u32) {
+        self.steps = self.steps.and(&1);
         let _ = self.changes.given.remove(&index);
         if self.changes.passed <= index {
             self.changes.passed = index + 1;
@@ -88,11 +98,13 @@ impl<'a> PoolParts for DraftParts<'a> {
     }
 
     fn add_room(&mut self, text: &str, index: u32) -> Result<(), Error> {
+        self.steps = self.steps.and(&3);
         let alloc = *self.changes.added.allocator();
         put_room(alloc, self.base, &mut self.changes.room, text, index)
     }
 
     fn add_room_again(&mut self, index: u32) -> Result<(), Error> {
+        self.steps = self.steps.and(&4);
         let alloc = *self.changes.added.allocator();
         match place_at(self.base, &self.changes.changed, &self.changes.added, index) {
             Some((text, _)) => {
@@ -109,6 +121,7 @@ impl<'a> PoolParts for DraftParts<'a> {
     }
 
     fn remove_room(&mut self, index: u32) {
+        self.steps = self.steps.and(&4);
         match place_at(self.base, &self.changes.changed, &self.changes.added, index) {
             Some((text, _)) => drop_room(&mut self.changes.room, text.as_str(), index),
             None => {}
@@ -116,6 +129,7 @@ impl<'a> PoolParts for DraftParts<'a> {
     }
 
     fn write(&mut self, index: u32, text: String, count: u16) {
+        self.steps = self.steps.and(&1);
         let first_added = self.base.list().len();
         if (index as usize) < first_added {
             write_changed(&mut self.changes.changed, index, text, count);
@@ -125,6 +139,7 @@ impl<'a> PoolParts for DraftParts<'a> {
     }
 
     fn take_use(&mut self, index: u32) {
+        self.steps = self.steps.and(&1);
         let first_added = self.base.list().len();
         if (index as usize) < first_added {
             take_changed(&mut self.changes.changed, index);
@@ -134,6 +149,7 @@ impl<'a> PoolParts for DraftParts<'a> {
     }
 
     fn push(&mut self, text: String) -> Result<(), Error> {
+        self.steps = self.steps.and(&4);
         let alloc = *self.changes.added.allocator();
         let index = self.len() as u32;
         self.changes.added.reserve(1)?;

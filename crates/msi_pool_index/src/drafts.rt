@@ -10,6 +10,7 @@ ghost use Rattle.msi_pool_index.specs.PoolParts.{has_place, has_room};
 
 use crate::draftparts::{Changes, DraftParts};
 use crate::places::Places;
+use crate::steps::Steps;
 use cfb_medium::Error;
 use std::alloc::Global;
 use std::collections::{BTreeMap, BTreeSet};
@@ -18,7 +19,8 @@ impl Places {
     /// A draft of these places, which takes no memory until it is changed.
     pub fn draft(&self) -> Places<DraftParts<'_>>
         ensures same { result.places ≡ self.now.places }
-        ensures under { result.under ≡ self.now.places }
+        ensures under { result.under
+            ≡ record { places = self.now.places; steps = self.now.steps } }
     {
         let alloc = *self.parts.list.allocator();
         let changes = Changes {
@@ -27,21 +29,26 @@ impl Places {
             given: BTreeSet::new(alloc),
             passed: 0,
             room: BTreeMap::new(alloc),
+            below: self.parts.steps.and(&0),
         };
         Places {
             parts: DraftParts {
                 base: self,
                 changes,
+                steps: Steps::none(),
             },
         }
     }
 
-    /// Takes over what a draft changed. After Memory, the one error, the places are as they were.
+    /// Takes over what a draft changed, with the count of steps that there was when the draft was made. After Memory, the one
+    /// error, places and count are as they were.
     pub fn adopt(&mut self, changes: Changes) -> Result<(), Error>
         requires { AreChangesOf self.old.places changes }
         ensures ok { OnOk result (self.new.places ≡ taken_over self.old.places changes) }
+        ensures steps { OnOk result (self.new.steps ≡ changes.below.count) }
         ensures few { length self.new.places < 2 ^ 32 }
         ensures after_error { OnErr result (self.new.places ≡ self.old.places) }
+        ensures same_steps { OnErr result (self.new.steps ≡ self.old.steps) }
         ensures errors { IfErr result (λ e. e ≡ Memory) }
     {
         let alloc = *self.parts.list.allocator();
@@ -51,12 +58,14 @@ impl Places {
             given,
             passed: _,
             room,
+            below,
         } = changes;
         hold_texts(alloc, &mut self.parts.room, &room)?;
         let end = self.parts.list.len();
         hold_added(&mut self.parts.list, &mut self.parts.free, &given, added)?;
         write_changes(&mut self.parts.list, &mut self.parts.free, changed, end);
         put_rooms(&mut self.parts.room, room);
+        self.parts.steps = below;
         Ok(())
     }
 }
@@ -64,10 +73,18 @@ impl Places {
 impl<'a> Places<DraftParts<'a>> {
     /// What the draft changed of the places that it lies over.
     pub fn into_changes(self) -> Changes
-        ensures changes { AreChangesOf self.entry.under result }
-        ensures places { taken_over self.entry.under result ≡ self.entry.places }
+        ensures changes { AreChangesOf self.entry.under.places result }
+        ensures places { taken_over self.entry.under.places result ≡ self.entry.places }
+        ensures steps { result.below.count ≡ self.entry.under.steps }
     {
-        self.parts.changes
+        let DraftParts {
+            base,
+            changes,
+            steps: _,
+        } = self.parts;
+        let mut changes = changes;
+        changes.below = base.parts.steps.and(&0);
+        changes
     }
 }
 

@@ -6,6 +6,7 @@ ghost use Rattle.msi_pool_index.specs.PoolIndex.{PoolIndexMatches};
 ghost use Rattle.msi_pool_index.specs.PoolParts.{parts_of};
 
 use crate::parts::{StdParts, add_room};
+use crate::steps::Steps;
 use cfb_medium::Error;
 use std::alloc::Global;
 use std::collections::{BTreeMap, BTreeSet};
@@ -15,11 +16,18 @@ pub(crate) fn list_with_index(alloc: Global, list: Vec<(String, u16)>) -> Result
     requires { length list.items < 2 ^ 32 }
     ensures list { IfOk result (λ parts. parts.list.items ≡ list.items) }
     ensures index { IfOk result (λ parts. PoolIndexMatches
-        (parts_of (places_of parts.list.items) parts.free parts.room)) }
+        (parts_of (places_of parts.list.items) parts.free parts.room 0)) }
+    ensures steps { IfOk result (λ parts. parts.steps.count ≡ 0) }
     ensures errors { IfErr result (λ e. e ≡ Memory) }
 {
     let (free, room) = index_of(alloc, list.as_slice())?;
-    Ok(StdParts { list, free, room })
+    let steps = Steps::none();
+    Ok(StdParts {
+        list,
+        free,
+        room,
+        steps,
+    })
 }
 
 // The free places of a list, and those that can take one more use of their text. The one error is Memory.
@@ -29,7 +37,7 @@ fn index_of(
 ) -> Result<(BTreeSet<u32>, BTreeMap<String, BTreeSet<u32>>), Error>
     requires { length list.now < 2 ^ 32 }
     ensures ok { IfOk result
-        (λ index. PoolIndexMatches (parts_of (places_of list.now) index.0 index.1)) }
+        (λ index. PoolIndexMatches (parts_of (places_of list.now) index.0 index.1 0)) }
     ensures errors { IfErr result (λ e. e ≡ Memory) }
 {
     let mut free = BTreeSet::new(alloc);
@@ -57,9 +65,9 @@ fn note_place(
     index: u32,
 ) -> Result<(), Error>
     ensures ok { OnOk result ((ps : List PoolEntry) → length ps ≡ index → index + 1 < 2 ^ 32
-        → PoolIndexMatches (parts_of ps free.old room.old)
+        → PoolIndexMatches (parts_of ps free.old room.old 0)
         → PoolIndexMatches (parts_of (ps ++ record { text = text.now; count = count } ∷ []) free.new
-        room.new)) }
+        room.new 0)) }
     ensures errors { IfErr result (λ e. e ≡ Memory) }
 {
     if count == 0 {

@@ -7,6 +7,7 @@ mod indexing;
 mod parts;
 mod places;
 mod ready;
+mod steps;
 
 pub use draftparts::{Changes, DraftParts};
 pub use parts::{PoolParts, StdParts};

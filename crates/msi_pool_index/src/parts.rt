@@ -6,6 +6,7 @@ ghost use Rattle.msi_pool_index.specs.Places.{empty_pool_entry, released_entry, 
 ghost use Rattle.msi_pool_index.specs.PoolIndex.{PoolIndexParts, KeepsAll, KeepsFree, KeepsRoom, SetsFree, SetsRoom, TakesAtMostSteps, IsLeast};
 ghost use Rattle.msi_pool_index.specs.PoolParts.{has_room, has_place};
 
+use crate::steps::Steps;
 use cfb_medium::Error;
 use std::alloc::Global;
 use std::collections::{BTreeMap, BTreeSet};
@@ -144,19 +145,20 @@ pub trait PoolParts: Drop {
         ensures cost { TakesAtMostSteps 4 (seen self.old) (seen self.new) };
 }
 
-/// The list, set and map of std, which count no steps when they run.
+/// The list, set and map of std. Each call counts its own steps, in a number that only proofs read.
 #[derive(Drop)]
 pub struct StdParts {
     pub(crate) list: Vec<(String, u16)>,
     pub(crate) free: BTreeSet<u32>,
     pub(crate) room: BTreeMap<String, BTreeSet<u32>>,
+    pub(crate) steps: Steps,
 }
 
 impl PoolParts for StdParts {
     ghost use Rattle.msi_pool_index.specs.Places.{places_of};
     ghost use Rattle.msi_pool_index.specs.PoolParts.{parts_of};
 
-    ghost seen = { λ p. parts_of (places_of p.list.items) p.free p.room };
+    ghost seen = { λ p. parts_of (places_of p.list.items) p.free p.room p.steps.count };
 
     ghost is_ready = { λ p i. Unit {0} };
 
@@ -165,6 +167,7 @@ impl PoolParts for StdParts {
     }
 
     fn count(&mut self, index: u32) -> u16 {
+        self.steps = self.steps.and(&1);
         match self.list.get(index as usize) {
             Some((_, count)) => *count,
             None => 0,
@@ -172,10 +175,12 @@ impl PoolParts for StdParts {
     }
 
     fn least_free(&mut self) -> Option<u32> {
+        self.steps = self.steps.and(&1);
         least(&self.free)
     }
 
     fn least_with_room(&mut self, text: &str) -> Option<u32> {
+        self.steps = self.steps.and(&2);
         least_with_room(&self.room, text)
     }
 
@@ -184,38 +189,46 @@ impl PoolParts for StdParts {
     }
 
     fn add_free(&mut self, index: u32) -> Result<(), Error> {
+        self.steps = self.steps.and(&1);
         let _ = self.free.insert(index)?;
         Ok(())
     }
 
     fn remove_free(&mut self, index: u32) {
+        self.steps = self.steps.and(&1);
         let _ = self.free.remove(&index);
     }
 
     fn add_room(&mut self, text: &str, index: u32) -> Result<(), Error> {
+        self.steps = self.steps.and(&3);
         add_room(*self.list.allocator(), &mut self.room, text, index)
     }
 
     fn add_room_again(&mut self, index: u32) -> Result<(), Error> {
+        self.steps = self.steps.and(&4);
         let alloc = *self.list.allocator();
         let (text, _) = &self.list[index as usize];
         add_room(alloc, &mut self.room, text.as_str(), index)
     }
 
     fn remove_room(&mut self, index: u32) {
+        self.steps = self.steps.and(&4);
         let (text, _) = &self.list[index as usize];
         remove_room(&mut self.room, text.as_str(), index);
     }
 
     fn write(&mut self, index: u32, text: String, count: u16) {
+        self.steps = self.steps.and(&1);
         self.list[index as usize] = (text, count);
     }
 
     fn take_use(&mut self, index: u32) {
+        self.steps = self.steps.and(&1);
         take_one(&mut self.list[index as usize]);
     }
 
     fn push(&mut self, text: String) -> Result<(), Error> {
+        self.steps = self.steps.and(&4);
         let alloc = *self.list.allocator();
         let index = self.list.len() as u32;
         self.list.reserve(1)?;

@@ -7,6 +7,7 @@ ghost use Rattle.msi_pool_index.specs.PoolIndex.{PoolIndexMatches, IsLeast, Keep
 
 use crate::indexing::list_with_index;
 use crate::parts::{PoolParts, StdParts, least_with_room};
+use crate::steps::Steps;
 use cfb_medium::Error;
 use std::alloc::Global;
 use std::collections::{BTreeMap, BTreeSet};
@@ -29,23 +30,26 @@ impl<P: PoolParts> Model for Places<P> {
 }
 
 impl Places {
-    /// No places.
+    /// No places, on which no step was taken.
     pub fn new(alloc: Global) -> Places
-        ensures { result.places ≡ [] }
+        ensures places { result.places ≡ [] }
+        ensures steps { result.steps ≡ 0 }
     {
         Places {
             parts: StdParts {
                 list: Vec::new(alloc),
                 free: BTreeSet::new(alloc),
                 room: BTreeMap::new(alloc),
+                steps: Steps::none(),
             },
         }
     }
 
-    /// These places. The one error is Memory.
+    /// These places, on which no step was taken. The one error is Memory.
     pub fn of(alloc: Global, list: Vec<(String, u16)>) -> Result<Places, Error>
         requires { length list.items < 2 ^ 32 }
         ensures ok { IfOk result (λ places. places.places ≡ places_of list.items) }
+        ensures steps { IfOk result (λ places. places.steps ≡ 0) }
         ensures errors { IfErr result (λ e. e ≡ Memory) }
     {
         let parts = list_with_index(alloc, list)?;
@@ -88,6 +92,23 @@ impl Places {
 }
 
 impl<P: PoolParts> Places<P> {
+    /// The number of places.
+    pub fn len(&self) -> u32
+        ensures { result ≡ length self.now.places }
+    {
+        self.parts.len() as u32
+    }
+
+    /// The number of uses at the place of this index, in one step; past the last 0.
+    pub fn refcount(&mut self, index: u32) -> u16
+        ensures count { result ≡ (pool_entry_at self.old.places (index + 1)).count }
+        ensures places { self.new.places ≡ self.old.places }
+        ensures under { self.new.under ≡ self.old.under }
+        ensures steps { self.new.steps ≤ self.old.steps + 1 }
+    {
+        self.parts.count(index)
+    }
+
     /// Counts a use of the text at the least place that takes it, else at a new place, and tells its number, in at most sixteen
     /// steps. InvalidInput where that is above the last; then, and after Memory, the places are as they were.
     pub fn incref(&mut self, text: String, last: u32) -> Result<u32, Error>

@@ -28,7 +28,7 @@ impl Model for ReadyPlaces {
 
     ghost Value = { Ready };
 
-    ghost view = { λ p. record { places = places_of p.parts.list.items; next = taken_over (places_of p.parts.list.items) p.changes } };
+    ghost view = { λ p. record { places = places_of p.parts.list.items; steps = p.parts.steps.count; next = taken_over (places_of p.parts.list.items) p.changes; next_steps = p.changes.below.count } };
 
     ghost invariant = { λ p. PlacesHaveRoom p.parts.list p.parts.free p.parts.room p.changes };
 }
@@ -38,33 +38,52 @@ impl Places {
     pub fn make_room(self, changes: Changes) -> Result<ReadyPlaces, (Places, Error)>
         requires { AreChangesOf self.places changes }
         ensures places { IfOk result (λ ready. ready.places ≡ self.places) }
+        ensures steps { IfOk result (λ ready. ready.steps ≡ self.steps) }
         ensures next { IfOk result (λ ready. ready.next ≡ taken_over self.places changes) }
+        ensures next_steps { IfOk result (λ ready. ready.next_steps ≡ changes.below.count) }
         ensures after_error { IfErr result (λ e. e.0.places ≡ self.places) }
+        ensures same_steps { IfErr result (λ e. e.0.steps ≡ self.steps) }
         ensures errors { IfErr result (λ e. e.1 ≡ Memory) }
     {
         let StdParts {
             mut list,
             mut free,
             mut room,
+            steps,
         } = self.parts;
         let alloc = *list.allocator();
         match hold_texts(alloc, &mut room, &changes.room) {
             Ok(()) => {}
             Err(error) => return Err((
                 Places {
-                    parts: StdParts { list, free, room },
+                    parts: StdParts {
+                        list,
+                        free,
+                        room,
+                        steps,
+                    },
                 },
                 error,
             )),
         }
         match make_space(&mut list, &mut free, &changes.given, changes.added.len()) {
             Ok(()) => {
-                let parts = StdParts { list, free, room };
+                let parts = StdParts {
+                    list,
+                    free,
+                    room,
+                    steps,
+                };
                 Ok(ReadyPlaces { parts, changes })
             }
             Err(error) => Err((
                 Places {
-                    parts: StdParts { list, free, room },
+                    parts: StdParts {
+                        list,
+                        free,
+                        room,
+                        steps,
+                    },
                 },
                 error,
             )),
@@ -73,14 +92,16 @@ impl Places {
 }
 
 impl ReadyPlaces {
-    /// The places with the changes.
+    /// The places with the changes, with the count of steps that there was when the draft was made.
     pub fn adopt(self) -> Places
-        ensures { result.places ≡ self.next }
+        ensures places { result.places ≡ self.next }
+        ensures steps { result.steps ≡ self.next_steps }
     {
         let StdParts {
             mut list,
             mut free,
             mut room,
+            steps: _,
         } = self.parts;
         let Changes {
             changed,
@@ -88,28 +109,41 @@ impl ReadyPlaces {
             given: _,
             passed: _,
             room: touched,
+            below,
         } = self.changes;
         let end = list.len();
         add_to_list(&mut list, added);
         write_changes(&mut list, &mut free, changed, end);
         put_rooms(&mut room, touched);
         Places {
-            parts: StdParts { list, free, room },
+            parts: StdParts {
+                list,
+                free,
+                room,
+                steps: below,
+            },
         }
     }
 
-    /// The places as they were.
+    /// The places as they were, with their count of steps.
     pub fn give_up(self) -> Places
-        ensures { result.places ≡ self.places }
+        ensures places { result.places ≡ self.places }
+        ensures steps { result.steps ≡ self.steps }
     {
         let StdParts {
             list,
             mut free,
             room,
+            steps,
         } = self.parts;
         drop_used(list.as_slice(), &mut free, &self.changes.given);
         Places {
-            parts: StdParts { list, free, room },
+            parts: StdParts {
+                list,
+                free,
+                room,
+                steps,
+            },
         }
     }
 }

@@ -10,14 +10,12 @@ ghost use Rattle.msi_tables.specs.Held.{heading_of, rows_held};
 ghost use Rattle.msi_texts.specs.Results.{ReturnsOrOutOfMemory};
 ghost use Rattle.std.specs.List.{filter_map, list_all};
 ghost use Rattle.std.specs.Prelude.{◌≡◌, ◌⊎◌, filter, map, string_bytes, IfErr, IfOk, IsTrue, Ok};
-ghost use Rattle.std.specs.Rc.{rc_value};
 
 use cfb_medium::Error;
-use msi_expr::{Expr, knows_condition, matches};
+use msi_expr::{Expr, RowTest, knows_condition};
 use msi_pool::{StringPool, ValueRef};
 use msi_tables::{Column, Table};
 use std::alloc::Global;
-use std::rc::Rc;
 
 // The rows that the condition lets through, and of them the columns of these names, in this order; no names stand for
 // all. `InvalidInput` where there is no such column, or none that the condition names.
@@ -69,29 +67,15 @@ fn filtered_rows(
         (rows_held rows.items)) }
     ensures errors { IfErr result (λ e. e ≡ Memory) }
 {
-    let shared = Rc::new(alloc, table.clone(alloc)?)?;
-    copies_let_through(alloc, pool, &shared, condition, &rows)
-}
-
-// Copies of the rows that the condition lets through.
-fn copies_let_through(
-    alloc: Global,
-    pool: &StringPool,
-    table: &Rc<Table>,
-    condition: &Option<Expr>,
-    rows: &[Vec<ValueRef>],
-) -> Result<Vec<Vec<ValueRef>>, Error>
-    requires { IsTrue (knows_condition (heading_of (rc_value table.now)).columns
-        (condition_of condition.now)) }
-    ensures ok { IfOk result (λ kept. rows_held kept.items
-        ≡ filter (matches pool.now.pool (heading_of (rc_value table.now)).columns
-        (condition_of condition.now)) (rows_held rows.now)) }
-    ensures errors { IfErr result (λ e. e ≡ Memory) }
-{
+    match condition {
+        None => return Ok(rows),
+        Some(_) => {}
+    }
+    let test = RowTest::new(alloc, table, condition)?;
     let mut kept = Vec::new(alloc);
     for row in rows {
-        if matches(alloc, pool, table, condition, row)? {
-            kept.push(Vec::from_slice(alloc, row)?)?;
+        if test.passes(alloc, pool, &row)? {
+            kept.push(row)?;
         }
     }
     Ok(kept)

@@ -22,7 +22,7 @@ Refuses r = IfErr r IsOfBytes
 
 -- ---- steps
 
-then_refuses : {A B : Type 0} (r : Result A Error) (f : A → Result B Error) → Refuses r → ((x : A) → Refuses (f x)) → Refuses (r >>= f)
+pub then_refuses : {A B : Type 0} (r : Result A Error) (f : A → Result B Error) → Refuses r → ((x : A) → Refuses (f x)) → Refuses (r >>= f)
 then_refuses (Ok x) f h k = k x
 then_refuses (Err e) f h k = h
 
@@ -30,7 +30,7 @@ if_refuses : {A : Type 0} (b : Bool) (r s : Result A Error) → Refuses r → Re
 if_refuses true r s h k = h
 if_refuses false r s h k = k
 
-unless_refuses : (b : Bool) → Refuses (unless_not b InvalidData)
+pub unless_refuses : (b : Bool) → Refuses (unless_not b InvalidData)
 unless_refuses true = tt
 unless_refuses false = inl refl
 
@@ -45,7 +45,7 @@ bytes_refuse n bytes = by (nat_lt (length bytes) n)
     by true = inr refl
     by false = tt
 
-number_refuses : (n : ℕ) (bytes : List ℕ) → Refuses (number_at n bytes)
+pub number_refuses : (n : ℕ) (bytes : List ℕ) → Refuses (number_at n bytes)
 number_refuses n bytes = then_refuses (bytes_at n bytes) _ (bytes_refuse n bytes) (λ b. tt)
 
 -- ---- the pool
@@ -59,7 +59,7 @@ head_refuses bytes =
     then_refuses (number_at 2 len.1) _ (number_refuses 2 len.1) (λ count.
     then_refuses (length_at len.0 count.0 count.1) _ (length_refuses len.0 count.0 count.1) (λ own. tt)))
 
-heads_refuse : (most : ℕ) (bytes : List ℕ) → Refuses (heads_at most bytes)
+pub heads_refuse : (most : ℕ) (bytes : List ℕ) → Refuses (heads_at most bytes)
 heads_refuse zero bytes = tt
 heads_refuse (suc most) bytes =
     if_refuses (nat_lt (length bytes) 2) (Ok []) (head_at bytes >>= λ head. heads_at most head.1 >>= λ heads. Ok (head.0 ∷ heads)) tt
@@ -72,7 +72,7 @@ begun_refuses bytes =
     then_refuses (heads_at (length id.1) id.1) _ (heads_refuse (length id.1) id.1) (λ heads.
     then_refuses (unless_not (nat_lt (length heads) 4294967296) InvalidData) _ (unless_refuses (nat_lt (length heads) 4294967296)) (λ u. tt))))
 
-texts_refuse : (heads : Heads) (bytes : List ℕ) → Refuses (texts_at heads bytes)
+pub texts_refuse : (heads : Heads) (bytes : List ℕ) → Refuses (texts_at heads bytes)
 texts_refuse [] bytes = tt
 texts_refuse (h ∷ hs) bytes = then_refuses (bytes_at h.0 bytes) _ (bytes_refuse h.0 bytes) (λ b. then_refuses (texts_at hs b.1) _ (texts_refuse hs b.1) (λ stored. tt))
 
@@ -138,7 +138,7 @@ section_refuses section =
     then_refuses (number_at 4 section) _ (number_refuses 4 section) (λ size.
     then_refuses (number_at 4 size.1) _ (number_refuses 4 size.1) (λ count. pairs_refuse count.0 count.1 []))
 
-stored_refuses : (bytes : List ℕ) → Refuses (stored_props bytes)
+pub stored_refuses : (bytes : List ℕ) → Refuses (stored_props bytes)
 stored_refuses bytes =
     then_refuses (set_head_at bytes) _ (set_head_refuses bytes) (λ head.
     then_refuses (section_at (drop head.offset bytes)) _ (section_refuses (drop head.offset bytes)) (λ pairs.

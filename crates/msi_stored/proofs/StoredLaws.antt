@@ -32,6 +32,7 @@ module _ {F : Type 0} {g : Ghosts F} where
     validation = refl;
     sound = refl;
     most = refl;
+    held = λ are. are;
   }
 
   pub rests_refl : (it : StoredTables F g) → OnlyReadsStore it it
@@ -44,6 +45,7 @@ module _ {F : Type 0} {g : Ghosts F} where
     validation = k.validation ∙ h.validation;
     sound = k.sound ∙ h.sound;
     most = k.most ∙ h.most;
+    held = λ are. k.held (h.held are);
   }
 
   -- an error of a file that was only read before has its cause since then

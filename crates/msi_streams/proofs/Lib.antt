@@ -6,6 +6,7 @@ pub mod Objects
 pub mod Outcomes
 pub mod Own
 pub mod PutParts
+pub mod Sources
 pub mod Stored
 pub mod Streams
 pub mod Taken

@@ -87,8 +87,8 @@ pub(crate) fn tell_pages_to_try<R: Files<File = File> + AllocGlobal, E: Write>(
     }
 }
 
-// Whether a rule on texts is broken.
-fn is_of_texts(found: &[Defect]) -> bool {
+/// Whether a rule on texts is broken.
+pub(crate) fn is_of_texts(found: &[Defect]) -> bool {
     found.iter().any(|it| matches!(it, Defect::PoolTexts | Defect::SummaryTexts))
 }
 

@@ -9,8 +9,10 @@ mod containers;
 mod packages;
 mod places;
 mod twice;
+mod unsound;
 mod utf8;
 
 pub use adopt::{adopted_package, tell_unadopted};
 pub use check::{Checking, check_package};
 pub use twice::tell_twice;
+pub use unsound::tell_unsound;

@@ -231,7 +231,7 @@ fn cut_locked<R: Files<File = File>>(rt: &R, names: &Names) -> io::Result<()> {
 }
 
 // A file that no other program has.
-fn locked<R: Files<File = File>>(rt: &R, path: &str) -> io::Result<File> {
+pub(crate) fn locked<R: Files<File = File>>(rt: &R, path: &str) -> io::Result<File> {
     let mut options = OpenOptions::new();
     let file = options.read(true).write(true).open(rt, path)?;
     file.try_lock()?;
@@ -248,7 +248,7 @@ fn is_closed_at<R: Files<File = File>>(rt: &R, path: &str) -> io::Result<bool> {
 }
 
 // Whether a log is closed: it has at most one byte, or its first isn't 01.
-fn is_closed(log: &File) -> io::Result<bool> {
+pub(crate) fn is_closed(log: &File) -> io::Result<bool> {
     let mut gate = [0u8; 2];
     Ok(log.read_at(&mut gate, 0)? < 2 || gate[0] != 1)
 }

@@ -44,6 +44,24 @@ impl Names {
     pub fn is_log_named(&self) -> bool {
         self.is_log_named
     }
+
+    /// The files of the package while it isn't whole: its own with this ending behind its name, and the log beside that, or the one that was given.
+    pub fn of_part<R: AllocGlobal>(&self, rt: &R, ending: &str) -> Result<Names, Failure> {
+        let named = part_of(rt, &self.named, ending)?;
+        let package = part_of(rt, &self.package, ending)?;
+        let (log, told_log) = if self.is_log_named {
+            (owned(rt, &self.log)?, owned(rt, &self.told_log)?)
+        } else {
+            (beside(rt, &package)?, beside(rt, &named)?)
+        };
+        Ok(Names {
+            named,
+            package,
+            log,
+            told_log,
+            is_log_named: self.is_log_named,
+        })
+    }
 }
 
 /// The files of the package at a path: the log is the one of the path that is given, or stands beside the file to which the package's path
@@ -143,6 +161,14 @@ fn owned<R: AllocGlobal>(rt: &R, text: &str) -> Result<String, Failure> {
 // The log beside a file.
 fn beside<R: AllocGlobal>(rt: &R, path: &str) -> Result<String, Failure> {
     match format!(in rt.alloc(); "{path}.log") {
+        Ok(path) => Ok(path),
+        Err(_) => Err(Failure::Memory),
+    }
+}
+
+// The file of a package that isn't whole.
+fn part_of<R: AllocGlobal>(rt: &R, path: &str, ending: &str) -> Result<String, Failure> {
+    match format!(in rt.alloc(); "{path}{ending}") {
         Ok(path) => Ok(path),
         Err(_) => Err(Failure::Memory),
     }

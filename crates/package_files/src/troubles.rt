@@ -18,6 +18,8 @@ pub enum Trouble {
     OtherNames,
     /// No space is left where it lies.
     NoSpace,
+    /// No space is left where it is to be made, and it isn't there.
+    NoSpaceForNew,
     /// It is a folder.
     Folder,
     /// It is a pipe, a device node, or the like.
@@ -66,6 +68,8 @@ pub enum Trouble {
     Full,
     /// A read or a write has failed.
     Fault,
+    /// A write has failed of a file that was to be made, and isn't there.
+    FaultOfNew,
 }
 
 impl Trouble {
@@ -79,6 +83,7 @@ impl Trouble {
             Trouble::OtherNames =>
                 "several names lead to this file, and its log would lie beside one of them; name a log by `--log`, or copy the file and change the copy",
             Trouble::NoSpace => "no space is left; `msidb recover` finishes what was begun",
+            Trouble::NoSpaceForNew => "it can't be made: no space is left",
             Trouble::Folder => "a folder, where a file is wanted",
             Trouble::NotRegular => "no regular file",
             Trouble::Hidden => "it can't be looked at",
@@ -108,6 +113,18 @@ impl Trouble {
                 "a damaged package: its summary, string pool or list of tables is wrong",
             Trouble::Full => "it can grow no further",
             Trouble::Fault => "a read or a write failed; `msidb recover` finishes what was begun",
+            Trouble::FaultOfNew => "it can't be made: a read or a write failed",
+        }
+    }
+}
+
+impl Trouble {
+    /// The same of a file that was to be made, of which nothing was left.
+    pub fn of_new(self) -> Trouble {
+        match self {
+            Trouble::NoSpace => Trouble::NoSpaceForNew,
+            Trouble::Fault => Trouble::FaultOfNew,
+            trouble => trouble,
         }
     }
 }

@@ -181,10 +181,17 @@ fn why_not(package: &Package<Shown>, table: &IdtTable) -> Option<&'static str> {
         return Some("a system table isn't imported: its rows come with the tables that are made");
     }
     match table_columns(package, &table.name) {
-        Some(columns) if !has_columns(&table.columns, columns) => {
-            Some("the package has this table with other columns; drop it first")
-        }
+        Some(columns) if !has_columns(&table.columns, columns) => Some(why_other(package)),
         _ => None,
+    }
+}
+
+// How a table with other columns gives way: it is dropped, where tables are.
+fn why_other(package: &Package<Shown>) -> &'static str {
+    if table_columns(package, "_Validation").is_some() {
+        "the package has this table with other columns; drop it first, by a run of `drop_table`"
+    } else {
+        "the package has this table with other columns, and no _Validation, without which none is dropped; in a copy made by `msidb adopt --validation` drop it first, by a run of `drop_table`"
     }
 }
 

@@ -14,9 +14,10 @@ pub use notes::{
 };
 pub use own::{Own, SummaryPage, own_facts, page_in_summary};
 pub use packages::{
-    Stored, bytes_of, class_of, codepage_of, columns_of, container_at, container_of, entries_at,
-    facts_of, has_stream, is_signed, is_signed_at, is_sound_at, kind_of, package_at, properties_of,
-    rows_of, stored_at, streams_of, streams_of_rows, table_columns, table_named, tables_of,
+    Stored, class_of, codepage_of, columns_of, container_at, container_of, entries_at, facts_of,
+    has_stream, is_signed, is_signed_at, is_sound_at, kind_of, open_stream, package_at,
+    properties_of, rows_of, stored_at, streams_of, streams_of_rows, table_columns, table_named,
+    tables_of, write_stream_to,
 };
 pub use pages::{NumberedPage, Pages, name_of_page, pages_of};
 pub use refusals::{tell_why_refused, trouble_of, why_refused};

@@ -1,9 +1,9 @@
 //! Packages that are only read: a function for each call, since what is told of a call costs time wherever it is seen.
 use cfb::{CaseMapper, CompoundFile, Entries, Entry};
 use cfb_medium::Error;
-use msi::{Package, Streams, Tables};
+use msi::{Package, ReadStream, Streams, Tables};
 use msi_columns::Column;
-use msi_export::{StreamFacts, facts_of_stream, has_bytes, stream_bytes, stream_of_row};
+use msi_export::{CopyError, StreamFacts, copy_stream, facts_of_stream, has_bytes, stream_of_row};
 use msi_props::PropertyValue;
 use msi_query::Select;
 use msi_spec::PackageType;
@@ -12,6 +12,7 @@ use msi_texts::{CodePage, encode};
 use package_files::{Names, Shown, shown_at};
 use std::alloc::{AllocError, Global};
 use std::fs::File;
+use std::io::Write;
 use std::rt::Files;
 
 /// A package, to be read as a recovery would leave it.
@@ -220,6 +221,18 @@ pub fn facts_of(
     facts_of_stream(alloc, package, name)
 }
 
-pub fn bytes_of(alloc: Global, package: &mut Package<Shown>, name: &str) -> Result<Vec<u8>, Error> {
-    stream_bytes(alloc, package, name)
+/// A stream of a package, to be read piece by piece.
+pub fn open_stream<'a>(
+    package: &'a mut Package<Shown>,
+    name: &str,
+) -> Result<ReadStream<'a, Shown>, Error> {
+    package.open_stream(name)
+}
+
+/// Writes the bytes of a stream to an output, piece by piece.
+pub fn write_stream_to<W: Write>(
+    stream: &mut ReadStream<'_, Shown>,
+    output: &mut W,
+) -> Result<(), CopyError> {
+    copy_stream(stream, output)
 }

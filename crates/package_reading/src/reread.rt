@@ -6,6 +6,7 @@ use crate::pages::{NumberedPage, Pages, is_named_by_packages};
 use cfb::{CompoundFile, ReadMedium};
 use cfb_medium::Error;
 use msi::Package;
+use msi_reread::{reread_properties, reread_texts};
 use msi_texts::{CodePage, SUMMARY_INFO_STREAM_NAME, encode};
 use package_files::{Names, Shown};
 use reread_texts::{
@@ -158,12 +159,14 @@ fn summary_in_utf8(alloc: Global, page: TextPage, bytes: &[u8]) -> Result<Reread
     reread_summary(alloc, page, bytes)
 }
 
-// Puts bytes in the place of a stream's.
-fn put(file: &mut CompoundFile<Shown>, path: &str, bytes: &[u8]) -> Result<(), Error> {
-    if file.version().stream_len_mask() < bytes.len() as u64 {
-        return Err(Error::Full);
-    }
-    file.rewrite_stream(path, bytes)
+fn put_texts(alloc: Global, file: &mut CompoundFile<Shown>, page: TextPage) -> Result<(), Error> {
+    let _places = reread_texts(alloc, file, page)?;
+    Ok(())
+}
+
+fn put_summary(alloc: Global, file: &mut CompoundFile<Shown>, page: TextPage) -> Result<(), Error> {
+    let _numbers = reread_properties(alloc, file, page)?;
+    Ok(())
 }
 
 fn reread_parts(
@@ -224,8 +227,7 @@ fn reread_texts_in(
     };
     let is_sound = has_sound_container(file);
     if plan.is_rewritten && is_sound {
-        put(file, &pool_path, &reread.pool)?;
-        put(file, &data_path, &reread.data)?;
+        put_texts(alloc, file, plan.page.page)?;
     }
     let part = PartRead {
         lacking: reread.lacking,
@@ -280,7 +282,7 @@ fn reread_summary_in(
     };
     let is_sound = has_sound_container(file);
     if plan.is_rewritten && is_sound {
-        put(file, SUMMARY_INFO_STREAM_NAME, &reread.bytes)?;
+        put_summary(alloc, file, plan.page.page)?;
     }
     let part = PartRead {
         lacking: reread.lacking,

@@ -1,13 +1,16 @@
 //! One stream of a package as a file.
-ghost use Rattle.std.specs.Prelude.{◌≤◌};
+ghost use Rattle.std.specs.Prelude.{◌≤◌, IfOk};
 
+use crate::near::tell_no_stream;
 use cfb_medium::Error;
+use msi::{Package, ReadStream};
+use msi_export::CopyError;
 use msi_texts::is_valid;
 use package_files::{
-    Names, Trouble, check_shown, tell, tell_failure, tell_part, tell_trouble, tell_unwritten,
+    Names, Shown, Trouble, check_shown, tell_failure, tell_part, tell_trouble, tell_unwritten,
     trouble_of_kind,
 };
-use package_reading::{bytes_of, package_as_named, tell_why_refused};
+use package_reading::{open_stream, package_as_named, tell_why_refused, write_stream_to};
 use std::alloc::Global;
 use std::fs::{self, File};
 use std::io::{self, Write};
@@ -37,11 +40,31 @@ pub fn extract_stream<'a, R: Files<File = File> + AllocGlobal, O: Write, E: Writ
             return 3;
         }
     };
-    match bytes_of(rt.alloc(), &mut package, stream) {
-        Ok(bytes) if path == "-" => print_bytes(&bytes, out, err),
-        Ok(bytes) => keep_bytes(rt, path, &bytes, err),
-        Err(error) => tell_unread(names.named(), stream, error, err),
+    match extract_from(rt, &mut package, stream, path, out, err) {
+        Ok(status) => status,
+        Err(error) => tell_unread(names.named(), &package, stream, error, err),
     }
+}
+
+// Writes the bytes of a stream to a new file or to the answers, and gives the status; or why they can't be read.
+fn extract_from<R: Files<File = File> + AllocGlobal, O: Write, E: Write>(
+    rt: &R,
+    package: &mut Package<Shown>,
+    stream: &str,
+    path: &str,
+    out: &mut O,
+    err: &mut E,
+) -> Result<u8, Error>
+    ensures { IfOk result (λ status. status ≤ 3) }
+{
+    let mut opened = match open_stream(package, stream) {
+        Ok(opened) => opened,
+        Err(error) => return Err(error),
+    };
+    if path == "-" {
+        return print_stream(&mut opened, out, err);
+    }
+    keep_stream(rt, path, &mut opened, err)
 }
 
 /// Whether a stream can have this name.
@@ -55,61 +78,70 @@ pub fn is_stream_name(name: &str) -> bool {
 }
 
 // Tells why a stream wasn't read, and gives the status.
-fn tell_unread<E: Write>(path: &str, stream: &str, error: Error, err: &mut E) -> u8
+fn tell_unread<E: Write>(
+    path: &str,
+    package: &Package<Shown>,
+    stream: &str,
+    error: Error,
+    err: &mut E,
+) -> u8
     ensures { result ≤ 3 }
 {
     if matches!(error, Error::NotFound | Error::InvalidInput) {
-        let _ = writeln!(
-            err,
-            "msidb: {path}: no stream {stream}; `msidb list` tells the names"
-        );
+        tell_no_stream(path, package, stream, err);
         return 1;
     }
     tell_part(path, "stream", stream, error, err);
     3
 }
 
-// Writes bytes to the answers. Where nobody reads them, that is no fault.
-fn print_bytes<O: Write, E: Write>(bytes: &[u8], out: &mut O, err: &mut E) -> u8
-    ensures { result ≤ 3 }
+// Writes the bytes of a stream to the answers, and gives the status; or why they can't be read. Where nobody reads them, that is no fault.
+fn print_stream<O: Write, E: Write>(
+    stream: &mut ReadStream<'_, Shown>,
+    out: &mut O,
+    err: &mut E,
+) -> Result<u8, Error>
+    ensures { IfOk result (λ status. status ≤ 3) }
 {
-    match out.write_all(bytes) {
-        Ok(()) => 0,
-        Err(error) if error.kind() == io::ErrorKind::BrokenPipe => 0,
-        Err(error) => {
-            tell_unwritten(error.kind(), err);
-            3
+    match write_stream_to(stream, out) {
+        Ok(()) => Ok(0),
+        Err(CopyError::Write(io::ErrorKind::BrokenPipe)) => Ok(0),
+        Err(CopyError::Write(kind)) => {
+            tell_unwritten(kind, err);
+            Ok(3)
         }
+        Err(CopyError::Read(error)) => Err(error),
     }
 }
 
-// Writes bytes to a new file.
-fn keep_bytes<R: Files<File = File> + AllocGlobal, E: Write>(
+// Writes the bytes of a stream to a new file, and gives the status; or why they can't be read.
+fn keep_stream<R: Files<File = File> + AllocGlobal, E: Write>(
     rt: &R,
     path: &str,
-    bytes: &[u8],
+    stream: &mut ReadStream<'_, Shown>,
     err: &mut E,
-) -> u8
-    ensures { result ≤ 3 }
+) -> Result<u8, Error>
+    ensures { IfOk result (λ status. status ≤ 3) }
 {
-    let Ok(part) = part_name(rt.alloc(), path) else {
-        tell("out of memory", err);
-        return 3;
-    };
+    let part = part_name(rt.alloc(), path)?;
     if fs::symlink_metadata(rt, path).is_ok() {
         tell_trouble(path, Trouble::Present, err);
-        return 3;
+        return Ok(3);
     }
     if fs::symlink_metadata(rt, part.as_str()).is_ok() {
         tell_left(&part, err);
-        return 3;
+        return Ok(3);
     }
-    match write_file(rt, path, &part, bytes) {
-        Ok(()) => 0,
-        Err(error) => {
+    match write_file(rt, path, &part, stream) {
+        Ok(()) => Ok(0),
+        Err(CopyError::Write(kind)) => {
             let _ = fs::remove_file(rt, part.as_str());
-            tell_trouble(path, trouble_of_new(error.kind()), err);
-            3
+            tell_trouble(path, trouble_of_new(kind), err);
+            Ok(3)
+        }
+        Err(CopyError::Read(error)) => {
+            let _ = fs::remove_file(rt, part.as_str());
+            Err(error)
         }
     }
 }
@@ -130,18 +162,32 @@ fn write_file<R: Files<File = File>>(
     rt: &R,
     path: &str,
     part: &str,
-    bytes: &[u8],
-) -> io::Result<()> {
-    fs::write(rt, part, bytes)?;
-    fs::rename(rt, part, path)
+    stream: &mut ReadStream<'_, Shown>,
+) -> Result<(), CopyError> {
+    write_stream_file(rt, part, stream)?;
+    match fs::rename(rt, part, path) {
+        Ok(()) => Ok(()),
+        Err(error) => Err(CopyError::Write(error.kind())),
+    }
+}
+
+// Writes the bytes of a stream to a file, which is made, or emptied before.
+pub(crate) fn write_stream_file<R: Files<File = File>>(
+    rt: &R,
+    path: &str,
+    stream: &mut ReadStream<'_, Shown>,
+) -> Result<(), CopyError> {
+    match File::create(rt, path) {
+        Ok(mut file) => write_stream_to(stream, &mut file),
+        Err(error) => Err(CopyError::Write(error.kind())),
+    }
 }
 
 // Why a new file can't be made.
 fn trouble_of_new(kind: io::ErrorKind) -> Trouble {
     match kind {
         io::ErrorKind::NotFound | io::ErrorKind::NotADirectory => Trouble::NoFolder,
-        io::ErrorKind::StorageFull | io::ErrorKind::QuotaExceeded => Trouble::NoSpace,
         io::ErrorKind::PermissionDenied => Trouble::Unmakable,
-        kind => trouble_of_kind(kind),
+        kind => trouble_of_kind(kind).of_new(),
     }
 }

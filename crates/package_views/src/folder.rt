@@ -1,15 +1,16 @@
 //! The folder that an export writes.
+use crate::extract::write_stream_file;
 use cfb_medium::Error;
 use msi::Package;
 use msi_export::{
-    Loss, codepage_text, file_name_of, has_bytes, heading_lines, loss_of_property, loss_of_row,
-    row_text, sorted_rows, stream_of_row, summary_text,
+    CopyError, Loss, codepage_text, file_name_of, has_bytes, heading_lines, loss_of_property,
+    loss_of_row, row_text, sorted_rows, stream_of_row, summary_text,
 };
 use msi_spec::PackageType;
 use msi_tables::Row;
 use package_files::{Shown, Trouble, tell_part, tell_trouble, trouble_of_kind};
 use package_reading::{
-    Stored, bytes_of, columns_of, has_stream, kind_of, properties_of, rows_of, streams_of,
+    Stored, columns_of, has_stream, kind_of, open_stream, properties_of, rows_of, streams_of,
     table_named, tables_of,
 };
 use std::alloc::{AllocError, Global};
@@ -220,14 +221,25 @@ impl<'a, R: Files<File = File>, E: Write> Target<'a, R, E> {
         folder: &str,
         file: &str,
     ) -> Result<(), Error> {
-        match bytes_of(self.alloc, package, name) {
-            Ok(bytes) => {
-                let path = format!(in self.alloc; "{}/{folder}/{file}", self.folder)?;
-                self.write_file(&path, &bytes)
-            }
+        let mut stream = match open_stream(package, name) {
+            Ok(stream) => stream,
             Err(error) => {
                 self.tell_unread("stream", name, error);
+                return Ok(());
+            }
+        };
+        let path = format!(in self.alloc; "{}/{folder}/{file}", self.folder)?;
+        match write_stream_file(self.rt, &path, &mut stream) {
+            Ok(()) => Ok(()),
+            Err(CopyError::Read(error)) => {
+                // (no file has a part of it)
+                let _ = fs::remove_file(self.rt, path.as_str());
+                self.tell_unread("stream", name, error);
                 Ok(())
+            }
+            Err(CopyError::Write(kind)) => {
+                tell_trouble(&path, trouble_of_kind(kind).of_new(), self.err);
+                Err(Error::Device)
             }
         }
     }
@@ -254,7 +266,7 @@ impl<'a, R: Files<File = File>, E: Write> Target<'a, R, E> {
         match fs::write(self.rt, path, bytes) {
             Ok(()) => Ok(()),
             Err(error) => {
-                tell_trouble(path, trouble_of_kind(error.kind()), self.err);
+                tell_trouble(path, trouble_of_kind(error.kind()).of_new(), self.err);
                 Err(Error::Device)
             }
         }
@@ -320,7 +332,7 @@ impl<'a, R: Files<File = File>, E: Write> Target<'a, R, E> {
 pub(crate) fn trouble_of_folder(kind: io::ErrorKind) -> Trouble {
     match kind {
         io::ErrorKind::NotFound | io::ErrorKind::NotADirectory => Trouble::NoFolder,
-        io::ErrorKind::StorageFull | io::ErrorKind::QuotaExceeded => Trouble::NoSpace,
+        io::ErrorKind::StorageFull | io::ErrorKind::QuotaExceeded => Trouble::NoSpaceForNew,
         _ => Trouble::Unmakable,
     }
 }

@@ -3,9 +3,11 @@
 
 mod export;
 mod extract;
+mod fields;
 mod folder;
 mod grids;
 mod json;
+mod near;
 mod properties;
 mod records;
 mod show;
@@ -13,5 +15,6 @@ mod tree;
 
 pub use export::export_package;
 pub use extract::{extract_stream, is_stream_name};
+pub use fields::tell_no_field;
 pub use properties::{NameFault, get_property, lacks_property, name_fault};
 pub use show::{Form, show_package};

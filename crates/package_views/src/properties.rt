@@ -1,6 +1,7 @@
 //! One property of a package, or one field of its summary, as a text.
 ghost use Rattle.std.specs.Prelude.{◌≤◌};
 
+use crate::fields::tell_no_field;
 use crate::json::{text_of_json, value_of_property};
 use cfb_medium::Error;
 use msi::Package;
@@ -185,10 +186,10 @@ fn print_value<O: Write, E: Write>(path: &str, text: &str, out: &mut O, err: &mu
 fn tell_nothing<E: Write>(path: &str, name: &str, is_field: bool, sought: &Sought, err: &mut E) {
     let _ = match sought {
         Sought::NoTable => writeln!(err, "msidb: {path}: no table {TABLE}, and so no property"),
-        Sought::NoField => writeln!(
-            err,
-            "msidb: {path}: no summary has a field {name}; `msidb get --help` tells the fields"
-        ),
+        Sought::NoField => {
+            tell_no_field(path, name, err);
+            Ok(())
+        }
         _ if name.is_empty() => writeln!(err, "msidb: {path}: nothing has an empty name"),
         _ if is_field => writeln!(
             err,

@@ -3,6 +3,7 @@ ghost use Rattle.std.specs.Prelude.{◌≤◌};
 
 use crate::grids::grid_lines;
 use crate::json::{text_of_json, value_of_cell, value_of_property};
+use crate::near::tell_no_table;
 use crate::records::records_of;
 use crate::tree::{tree_at, write_tree};
 use cfb_medium::Error;
@@ -254,11 +255,7 @@ impl<'a, O: Write, E: Write> Page<'a, O, E> {
         if table_named(package, name).is_some() {
             return self.show_table(package, name);
         }
-        let _ = writeln!(
-            self.err,
-            "msidb: {}: no table {name}; `msidb list` tells the names",
-            self.path
-        );
+        tell_no_table(self.path, package, name, self.err);
         Ok(Shown::NoTable)
     }
 

@@ -1,3 +1,4 @@
 pub mod Texts
 pub mod Pools
 pub mod Sets
+pub mod Told

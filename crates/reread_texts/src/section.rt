@@ -3,6 +3,7 @@ ghost use Rattle.std.specs.Prelude.{◌≡◌, [], drop, option_map, IfOk, Ok};
 ghost use Rattle.msi_props.specs.Props.{head_at, pairs_at, property_at, section_at, text_at, Head, Property};
 ghost use Rattle.msi_texts.specs.Results.{ReturnsOrOutOfMemory};
 ghost use Rattle.reread_texts.specs.Sets.{front_of, text_in, RiseFrom};
+ghost use Rattle.reread_texts.specs.Told.{section_told};
 
 use cfb_medium::Error;
 use msi_texts::read_u32;
@@ -17,7 +18,8 @@ const TEXT: u32 = 30;
 
 // The section of a set whose head can be read.
 pub(crate) fn section_of(bytes: &[u8]) -> &[u8]
-    ensures { (head : Head) → head_at bytes.now ≡ Ok head
+    ensures told { result.now ≡ section_told bytes.now }
+    ensures read { (head : Head) → head_at bytes.now ≡ Ok head
         → result.now ≡ drop head.offset bytes.now }
 {
     let mut rest = behind(bytes, OFFSET_AT);

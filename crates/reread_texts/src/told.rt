@@ -1,6 +1,8 @@
 //! The page that a property set tells, and a set that tells another.
-ghost use Rattle.std.specs.Prelude.{◌≡◌, length, IfErr, IfOk};
+ghost use Rattle.std.specs.Prelude.{◌≡◌, ◌≤◌, ◌==◌, length, option_map, IfErr, IfOk};
+ghost use Rattle.std.specs.List.{find};
 ghost use Rattle.cfb_medium.specs.declared.error.Error.TheVariants.{Memory};
+ghost use Rattle.reread_texts.specs.Told.{is_short_number, page_value, told_in_utf8};
 
 use crate::section::{behind, read_section, section_of};
 use cfb_medium::Error;
@@ -26,20 +28,24 @@ pub fn told_page(alloc: Global, bytes: &[u8]) -> Result<Option<u16>, Error>
 
 /// The bytes of a set in which property 1, where it tells a page, tells UTF-8. The one error is `Memory`.
 pub fn tell_utf8(alloc: Global, bytes: &[u8]) -> Result<Vec<u8>, Error>
-    ensures len { IfOk result (λ told. length told.items ≡ length bytes.now) }
+    ensures told { IfOk result (λ told. told.items ≡ told_in_utf8 bytes.now) }
     ensures errors { IfErr result (λ e. e ≡ Memory) }
 {
-    let rest = page_bytes(alloc, bytes)?;
-    let mut told = Vec::from_slice(alloc, bytes)?;
-    let place = bytes.len().saturating_sub(rest.len());
-    if number_in(rest).is_some() && place <= told.len() && 6 <= told.len() - place {
-        told[place + 4..place + 6].copy_from_slice(&UTF8.to_le_bytes());
+    let value = page_bytes(alloc, bytes)?;
+    if !is_short_number(value) {
+        return Ok(Vec::from_slice(alloc, bytes)?);
     }
+    let place = bytes.len() - value.len() + 4;
+    let mut told = Vec::from_slice(alloc, &bytes[..place])?;
+    told.extend_from_slice(&UTF8.to_le_bytes())?;
+    told.extend_from_slice(&bytes[place + 2..])?;
     Ok(told)
 }
 
 // The bytes from the value of property 1 on; none where it isn't there. The one error is `Memory`.
 fn page_bytes(alloc: Global, bytes: &[u8]) -> Result<&[u8], Error>
+    ensures value { IfOk result (λ value. value.now ≡ page_value bytes.now) }
+    ensures len { IfOk result (λ value. length value.now ≤ length bytes.now) }
     ensures errors { IfErr result (λ e. e ≡ Memory) }
 {
     let section = section_of(bytes);
@@ -48,12 +54,28 @@ fn page_bytes(alloc: Global, bytes: &[u8]) -> Result<&[u8], Error>
         Err(Error::Memory) => return Err(Error::Memory),
         Err(_) => return Ok(&bytes[..0]),
     };
-    for (number, offset) in &pairs {
-        if *number == CODEPAGE {
-            return Ok(behind(section, *offset));
-        }
+    match page_pair(&pairs) {
+        Some((_number, offset)) => Ok(behind(section, *offset)),
+        None => Ok(&bytes[..0]),
     }
-    Ok(&bytes[..0])
+}
+
+// The first pair of the number of property 1.
+fn page_pair(pairs: &[(u32, u32)]) -> Option<&(u32, u32)>
+    ensures { option_map (λ pair. pair.now) result ≡ find (λ q. q.0 == 1) pairs.now }
+{
+    pairs.iter().find(|pair| pair.0 == CODEPAGE)
+}
+
+// Whether the bytes begin with a value that is a number of two bytes.
+fn is_short_number(bytes: &[u8]) -> bool
+    ensures { result ≡ is_short_number bytes.now }
+{
+    let mut rest = bytes;
+    match read_u32(&mut rest) {
+        Ok(kind) => kind == I2 && 6 <= bytes.len(),
+        Err(_) => false,
+    }
 }
 
 // The number of two bytes that stands at the front as a value.

@@ -16,6 +16,7 @@ mod names;
 mod opening;
 mod shapes;
 mod siblings;
+mod stores;
 mod streams;
 mod told;
 
@@ -29,6 +30,7 @@ use names::Names;
 use opening::Openings;
 use siblings::Siblings;
 use std::{env, fs};
+use stores::Stores;
 use test_support::print_rows;
 
 fn main(rt: HostRuntime) -> Result<()> {
@@ -54,6 +56,7 @@ fn print_file(rt: &HostRuntime, path: &str) -> Result<()> {
         "directory.rows" => print_rows(rt, text.as_str(), Directories::new(alloc)?),
         "minis.rows" => print_rows(rt, text.as_str(), Minis::new(alloc)?),
         "opening.rows" => print_rows(rt, text.as_str(), Openings::new(alloc)?),
+        "stops.rows" => print_rows(rt, text.as_str(), Stores::new(alloc)),
         "disk.rows" => print_rows(rt, text.as_str(), Disk::new(rt)),
         _ => print_rows(rt, text.as_str(), FileInMemory::new()),
     }

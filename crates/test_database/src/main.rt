@@ -7,6 +7,8 @@ mod commands;
 mod packages;
 mod pieces;
 mod pool;
+mod runs;
+mod said;
 mod summary;
 mod tables;
 mod texts;

@@ -4,6 +4,8 @@ use crate::calls::{
     roll_back, told_stream,
 };
 use crate::pieces::write_pieces;
+use crate::runs::{answers_alike, run_commands, spare_sectors};
+use crate::said::written;
 use cfb::CaseMapper;
 use cfb_medium::Error;
 use std::alloc::Global;
@@ -79,6 +81,8 @@ impl Subject for Packages<'_> {
             "new" => self.take(alloc, create(alloc)),
             "again" => self.open_again(alloc),
             "copy" => self.copy(alloc),
+            "alike" => answers_alike(alloc, row),
+            "written" => written(alloc, row),
             _ => match &mut self.package {
                 Some(package) => answer_of(alloc, package, row),
                 None => Err(Error::NotFound),
@@ -92,6 +96,11 @@ fn answer_of(alloc: Global, package: &mut Stored, row: &Row) -> Result<String, E
     match row.call() {
         "there" => return yes_or_no(alloc, has_stream(package, row.text(1))),
         "read" => return told_stream(alloc, package, row.text(1)),
+        "run" => return run_commands(alloc, package, row),
+        "spare" => {
+            let copy = copy_of(alloc, package)?;
+            return Ok(format!(in alloc; "{}", spare_sectors(alloc, copy)?)?);
+        }
         "pieces" => write_pieces(alloc, package, row)?,
         "flush" => flush(package)?,
         "commit" => commit(package)?,

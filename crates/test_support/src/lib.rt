@@ -2,6 +2,7 @@
 #![tactic(auto)]
 
 mod bytes;
+mod counted;
 mod failing;
 mod printing;
 mod row;
@@ -9,6 +10,7 @@ mod survivor;
 mod told;
 
 pub use bytes::{bytes_at, hex_of, part_of, runs};
+pub use counted::{CountedDevice, Made};
 pub use failing::FailingMedium;
 pub use printing::{Subject, print_rows};
 pub use row::{Row, copy_of, yes_or_no};

@@ -25,7 +25,7 @@ returns-clause-opened g c = λ is.
       opened = here;
       shown = holds_so it (G.bytes old) told.0 letters told.1 here.shows here.means;
       sound = judged;
-      means = λ sound. let meant = means_so old it told.0 letters told.1 is opens here.shows here.means (judged.0 sound) in (meant.0, record { sound = sound; live = meant.1 });
+      means = λ sound. let meant = means_so old it told.0 letters told.1 is opens here.shows here.means (judged.0 sound) in (meant.0, record { sound = sound; live = meant.1; held = tt });
     }
 
 pub returns-in-Err-is_sound-clause-refused_only_if : goal.returns-in-Err-is_sound-clause-refused_only_if

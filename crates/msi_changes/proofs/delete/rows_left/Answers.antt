@@ -1,21 +1,13 @@
-use Rattle.std.proofs.Common.{◌∙◌, sym, ap, inl, inr, ⊎_elim}
-use Rattle.std.specs.Rc.{rc_value}
+use Rattle.std.proofs.Common.{◌∙◌, ap, subst}
+use Rattle.msi_texts.specs.Results.{ReturnsOrOutOfMemory}
 use Rattle.msi_tables.specs.Held.{heading_of, rows_held}
-use Rattle.msi_expr.specs.Conditions.{matches, condition_of}
-use Rattle.msi_changes.proofs.Deleting.{taken_of, unused_of}
+use Rattle.msi_expr.specs.Conditions.{condition_of, matches}
+use Rattle.msi_changes.specs.Applied.{left_of}
+use Rattle.msi_changes.proofs.Tested.{same_test}
 use Rattle.msi_changes.proofs.delete.rows_left.Goals as goal
 
-pub returns-in-Err-clause-left : goal.returns-in-Err-clause-left
-returns-in-Err-clause-left c =
-    let matching = matches c.args.pool.now.pool (heading_of (rc_value c.args.table.now)).columns (condition_of c.args.condition.now) in
-    ⊎_elim (λ memory. inl memory) (λ back. inr (sym c.loop-row.invariant.0
-    ∙ unused_of matching c.loop-row.counted.state.pool _ _ _ (rows_held c.loop-row.left.items) _ _ _ _ c.in-Some.ensures.steps.0 c.if-branch.true c.in_ok-matches.ensures.ok c.deref.ensures.value c.deref-then-branch.ensures.value back)) c.in-Err.ensures.takes
-
-pub loop-row-preserved-then-branch : goal.loop-row-preserved-then-branch
-loop-row-preserved-then-branch c =
-    let matching = matches c.args.pool.now.pool (heading_of (rc_value c.args.table.now)).columns (condition_of c.args.condition.now) in (
-      sym (taken_of matching c.loop-row.counted.state.pool c.take_back.new.pool.state.pool _ _ _ (rows_held c.loop-row.left.items) _ _ _ c.in-Some.ensures.steps.0 c.if-branch.true c.in_ok-matches.ensures.ok c.deref.ensures.value c.deref-then-branch.ensures.value c.in-Ok.ensures.takes)
-          ∙ c.loop-row.invariant.0,
-      λ still. (let back = c.take_back.ensures.marked still in back ∙ c.loop-row.invariant.1 (ap (λ p. p.modified) (sym back) ∙ still)),
-      c.take_back.ensures.under ∙ c.loop-row.invariant.2,
-    )
+pub returns-clause-left : goal.returns-clause-left
+returns-clause-left c =
+    let pool = c.args.pool.now.pool in
+    let same = same_test pool c.in_ok-test.ensures.ok ∙ ap (λ t. matches pool (heading_of t).columns (condition_of c.args.condition.now)) c.deref.ensures in
+    subst (ReturnsOrOutOfMemory _ _) (ap (λ m. left_of m c.args.counted.now.state.pool (rows_held c.args.rows.items)) same) c.rows_failing.ensures.left

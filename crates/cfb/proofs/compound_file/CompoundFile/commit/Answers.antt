@@ -15,4 +15,4 @@ returns-then-is_failed-clause-crash g c = λ honest.
 pub returns-clause-publishes : goal.returns-clause-publishes
 returns-clause-publishes g c =
     let did = c.commit.ensures in
-    on_ok c.commit.result (λ published sound. published) (published_so g.F.Medium.has_published c.args.self.now _ c.commit.result did.memory refl refl did.published did.bytes did.not_failed)
+    on_ok c.commit.result (λ published sound. published) (published_so g.F.Medium.has_published c.args.self.now _ c.commit.result did.memory refl refl tt did.published did.bytes did.not_failed)

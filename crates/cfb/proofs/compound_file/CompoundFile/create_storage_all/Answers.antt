@@ -3,4 +3,4 @@ use Rattle.cfb.proofs.Done.{does_so}
 use Rattle.cfb.proofs.compound_file.CompoundFile.create_storage_all.Goals as goal
 
 pub returns-clause-tree_rule : goal.returns-clause-tree_rule
-returns-clause-tree_rule g c = does_so _ c.args.self.now _ _ c.create_storage_all.result refl refl refl refl (search rules) (search rules) c.create_storage_all.ensures.tree_rule
+returns-clause-tree_rule g c = does_so _ c.args.self.now _ _ c.create_storage_all.result refl refl refl refl tt (search rules) (search rules) c.create_storage_all.ensures.tree_rule

@@ -25,7 +25,7 @@ pub returns-in-Err-clause-kept : goal.returns-in-Err-clause-kept
 returns-in-Err-clause-kept g c =
     ⊎_elim
     (λ failed. inl failed)
-    (λ k. inr (λ path tree content w. written_kept c.args.self.now _ path tree c.args.id content w k refl refl c.in-Err.ensures.kept w.ahead))
+    (λ k. inr (λ path tree content w. written_kept c.args.self.now _ path tree c.args.id content w k refl refl refl c.in-Err.ensures.kept w.ahead))
     c.in-Err.ensures.after_error
 
 pub returns-in-Err-clause-full_only_if : goal.returns-in-Err-clause-full_only_if
@@ -33,7 +33,7 @@ returns-in-Err-clause-full_only_if g c = λ wrong live path tree content w. c.in
 
 pub returns-then-can_outgrow-clause-written : goal.returns-then-can_outgrow-clause-written
 returns-then-can_outgrow-clause-written g c = λ path tree content w.
-    written_so c.args.self.now _ path tree c.args.id content w (λ held. overwritten (resized c.args.end held) c.args.at c.args.bytes.now) c.in_default.ensures.outgrown refl refl c.clear.ensures.none
+    written_so c.args.self.now _ path tree c.args.id content w (λ held. overwritten (resized c.args.end held) c.args.at c.args.bytes.now) c.in_default.ensures.outgrown refl refl refl c.clear.ensures.none
 
 pub returns-in-Err-overwrite_bytes-clause-large : goal.returns-in-Err-overwrite_bytes-clause-large
 returns-in-Err-overwrite_bytes-clause-large g c = λ wrong path tree content w.

@@ -14,9 +14,9 @@ pub returns-in-Err-clause-kept : goal.returns-in-Err-clause-kept
 returns-in-Err-clause-kept g c =
     ⊎_elim
     (λ failed. inl failed)
-    (λ k. inr (λ path tree content w. written_kept c.args.self.now _ path tree c.args.id content w k refl refl (λ _. alike_same _ _ refl) w.ahead))
+    (λ k. inr (λ path tree content w. written_kept c.args.self.now _ path tree c.args.id content w k refl refl refl (λ _. alike_same _ _ refl) w.ahead))
     c.in-Err.ensures.after_error
 
 pub returns-clause-written : goal.returns-clause-written
 returns-clause-written g c = λ path tree content w.
-    written_so c.args.self.now _ path tree c.args.id content w (λ l. overwritten l c.args.at c.args.bytes.now) c.in_default.ensures.written refl refl c.clear.ensures.none
+    written_so c.args.self.now _ path tree c.args.id content w (λ l. overwritten l c.args.at c.args.bytes.now) c.in_default.ensures.written refl refl refl c.clear.ensures.none

@@ -3,4 +3,4 @@ use Rattle.cfb.proofs.Done.{does_so}
 use Rattle.cfb.proofs.compound_file.CompoundFile.remove_storage.Goals as goal
 
 pub returns-clause-tree_rule : goal.returns-clause-tree_rule
-returns-clause-tree_rule g c = does_so _ c.args.self.now _ _ c.remove_storage.result refl refl refl refl (search rules) (search rules) c.remove_storage.ensures.tree_rule
+returns-clause-tree_rule g c = does_so _ c.args.self.now _ _ c.remove_storage.result refl refl refl refl tt (search rules) (search rules) c.remove_storage.ensures.tree_rule

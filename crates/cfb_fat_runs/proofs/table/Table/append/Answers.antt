@@ -1,5 +1,5 @@
 use Rattle.std.proofs.Common.{◌+◌, refl, ap, sym, subst, ◌∙◌, arith}
-use Rattle.cfb_fat_runs.specs.Gaps.{all_runs}
+use Rattle.cfb_fat_runs.specs.RunLists.{all_runs}
 use Rattle.cfb_fat_runs.specs.Runs.{entry_at, AreTiled}
 use Rattle.cfb_fat_runs.specs.Tables.{entries_of}
 use Rattle.cfb_fat_runs.proofs.Edited.{more_entries}

@@ -1,5 +1,5 @@
 use Rattle.std.proofs.Common.{◌+◌, ◌<◌, drop, ap, sym, subst, ◌∙◌, arith}
-use Rattle.cfb_fat_runs.specs.Gaps.{all_runs}
+use Rattle.cfb_fat_runs.specs.RunLists.{all_runs}
 use Rattle.cfb_fat_runs.specs.Runs.{head_of, start_of, tail_of}
 use Rattle.cfb_fat_runs.proofs.Edited.{drop_two, runs_few}
 use Rattle.cfb_fat_runs.proofs.table.Table.begin.Goals as goal

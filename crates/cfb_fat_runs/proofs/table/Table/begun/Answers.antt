@@ -1,6 +1,6 @@
 use Rattle.std.proofs.Common.{ap, ◌∙◌}
 use Rattle.std.specs.Prelude.{not, slice_index_or}
-use Rattle.cfb_fat_runs.specs.Gaps.{all_runs}
+use Rattle.cfb_fat_runs.specs.RunLists.{all_runs}
 use Rattle.cfb_fat_runs.specs.declared.runs.Kind.TheVariants.{Linked}
 use Rattle.cfb_fat_runs.specs.declared.runs.Run.{Run}
 use Rattle.cfb_fat_runs.proofs.Edited.{same_item}

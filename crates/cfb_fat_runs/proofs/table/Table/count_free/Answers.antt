@@ -1,5 +1,5 @@
 use Rattle.std.proofs.Common.{◌+◌, drop, arith, ◌∙◌}
-use Rattle.cfb_fat_runs.specs.Gaps.{all_runs}
+use Rattle.cfb_fat_runs.specs.RunLists.{all_runs}
 use Rattle.cfb_fat_runs.specs.Runs.{start_of}
 use Rattle.cfb_fat_runs.proofs.Walked.{counted_all, counted_few}
 use Rattle.cfb_fat_runs.proofs.table.Table.count_free.Goals as goal

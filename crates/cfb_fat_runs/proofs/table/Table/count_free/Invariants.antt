@@ -2,7 +2,7 @@ use Rattle.std.proofs.Common.{◌≡◌, ◌≤◌, drop, take, length}
 use Rattle.std.specs.Prelude.{nat_eq}
 use Rattle.std.specs.List.{count_by}
 use Rattle.cfb_sectors.specs.Sectors.{free}
-use Rattle.cfb_fat_runs.specs.Gaps.{all_runs}
+use Rattle.cfb_fat_runs.specs.RunLists.{all_runs}
 use Rattle.cfb_fat_runs.specs.Runs.{start_of}
 use Rattle.cfb_fat_runs.specs.Tables.{entries_of}
 use Rattle.cfb_fat_runs.proofs.table.Table.count_free.Given as goal

@@ -1,6 +1,6 @@
 use Rattle.std.proofs.Common.{◌+◌, sym, ap, ◌∙◌, arith}
 use Rattle.std.specs.List.{insert}
-use Rattle.cfb_fat_runs.specs.Gaps.{all_runs}
+use Rattle.cfb_fat_runs.specs.RunLists.{all_runs}
 use Rattle.cfb_fat_runs.specs.Runs.{entry_at, tail_of}
 use Rattle.cfb_fat_runs.specs.Tables.{entries_of, run_capacity, run_count}
 use Rattle.cfb_fat_runs.proofs.Edited.{cut_made, runs_few, same_entries, SameRuns}

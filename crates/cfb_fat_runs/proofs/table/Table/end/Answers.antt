@@ -1,5 +1,5 @@
 use Rattle.std.proofs.Common.{arith}
-use Rattle.cfb_fat_runs.specs.Gaps.{all_runs}
+use Rattle.cfb_fat_runs.specs.RunLists.{all_runs}
 use Rattle.cfb_fat_runs.proofs.Edited.{runs_few}
 use Rattle.cfb_fat_runs.proofs.table.Table.end.Goals as goal
 

@@ -1,5 +1,5 @@
 use Rattle.std.proofs.Common.{◌+◌, drop, ap, sym, ◌∙◌, arith}
-use Rattle.cfb_fat_runs.specs.Gaps.{all_runs}
+use Rattle.cfb_fat_runs.specs.RunLists.{all_runs}
 use Rattle.cfb_fat_runs.specs.Runs.{entry_in, start_of}
 use Rattle.cfb_fat_runs.specs.declared.runs.Kind.{Kind}
 use Rattle.cfb_fat_runs.specs.declared.runs.Run.{Run}

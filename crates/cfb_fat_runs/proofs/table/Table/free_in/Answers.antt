@@ -1,5 +1,5 @@
 use Rattle.std.proofs.Common.{arith}
-use Rattle.cfb_fat_runs.specs.Gaps.{all_runs}
+use Rattle.cfb_fat_runs.specs.RunLists.{all_runs}
 use Rattle.cfb_fat_runs.proofs.Walked.{counted_free, counted_none, run_some, unlike}
 use Rattle.cfb_fat_runs.proofs.table.Table.free_in.Goals as goal
 

@@ -1,5 +1,5 @@
 use Rattle.std.proofs.Common.{◌≡◌, ◌+◌, ◌-◌, ◌<◌, length, get_or, sym, ap, subst, ◌∙◌, arith}
-use Rattle.cfb_fat_runs.specs.Gaps.{all_runs}
+use Rattle.cfb_fat_runs.specs.RunLists.{all_runs}
 use Rattle.cfb_fat_runs.specs.Longest.{begins_run}
 use Rattle.cfb_fat_runs.specs.Tables.{entries_of}
 use Rattle.cfb_fat_runs.proofs.RunStarts.{begins_behind}

@@ -1,6 +1,6 @@
 use Rattle.std.proofs.Common.{◌<◌, ◌≤◌, length, sym, subst, arith, ⊎_elim}
 use Rattle.std.proofs.lemmas.Bool.{cases_lt}
-use Rattle.cfb_fat_runs.specs.Gaps.{all_runs}
+use Rattle.cfb_fat_runs.specs.RunLists.{all_runs}
 use Rattle.cfb_fat_runs.specs.declared.runs.Run.{Run}
 use Rattle.cfb_fat_runs.proofs.Edited.{runs_few, start_none, stop_least}
 use Rattle.cfb_fat_runs.proofs.Views.{size_of}

@@ -1,7 +1,7 @@
 use Rattle.std.proofs.Common.{◌≡◌, ℕ, ◌-◌, ◌<◌, ◌≤◌, drop, length}
 use Rattle.std.specs.Prelude.{slice_index}
 use Rattle.cfb_sectors.specs.Sectors.{free}
-use Rattle.cfb_fat_runs.specs.Gaps.{all_runs}
+use Rattle.cfb_fat_runs.specs.RunLists.{all_runs}
 use Rattle.cfb_fat_runs.specs.Runs.{start_of}
 use Rattle.cfb_fat_runs.specs.Tables.{entries_of}
 use Rattle.cfb_fat_runs.proofs.table.Table.next_free.Given as goal

@@ -1,5 +1,5 @@
 use Rattle.std.proofs.Common.{sym, ◌∙◌, arith, ⊎_elim}
-use Rattle.cfb_fat_runs.specs.Gaps.{all_runs}
+use Rattle.cfb_fat_runs.specs.RunLists.{all_runs}
 use Rattle.cfb_fat_runs.specs.declared.runs.Kind.TheVariants.{Linked}
 use Rattle.cfb_fat_runs.specs.declared.runs.Run.{Run}
 use Rattle.cfb_fat_runs.proofs.Edited.{found_at}

@@ -1,6 +1,6 @@
 use Rattle.std.proofs.Common.{◌+◌, ◌∷◌, drop, ap, ◌∙◌}
 use Rattle.std.specs.Prelude.{slice_index_or}
-use Rattle.cfb_fat_runs.specs.Gaps.{all_runs}
+use Rattle.cfb_fat_runs.specs.RunLists.{all_runs}
 use Rattle.cfb_fat_runs.specs.Runs.{head_of, start_of, tail_of}
 use Rattle.cfb_fat_runs.specs.declared.runs.Kind.TheVariants.{Linked}
 use Rattle.cfb_fat_runs.specs.declared.runs.Run.{Run}

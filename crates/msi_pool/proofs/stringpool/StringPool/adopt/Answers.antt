@@ -1,4 +1,4 @@
-use Rattle.std.proofs.Common.{ap, sym, subst, ◌∙◌}
+use Rattle.std.proofs.Common.{ap, ap₂, sym, subst, ◌∙◌}
 use Rattle.msi_pool_index.specs.PoolDraft.{AreChangesOf, taken_over}
 use Rattle.msi_pool.specs.PoolDraft.{AreChangesOver, adopted}
 use Rattle.msi_pool.specs.PoolState.{PoolState}
@@ -12,4 +12,5 @@ pub returns-clause-ok : goal.returns-clause-ok
 unfolding adopted
 returns-clause-ok c =
     let t = c.args.changes in
-    ap (λ places. record { pool = record { page = t.codepage; long = t.long_string_refs; places = places }; modified = t.is_modified }) (c.in_ok-adopt.ensures.ok ∙ ap (λ (v : PoolState). taken_over v.pool.places t.places) c.self.view_is)
+    ap₂ (λ places steps. record { pool = record { page = t.codepage; long = t.long_string_refs; places = places }; modified = t.is_modified; steps = steps })
+    (c.in_ok-adopt.ensures.ok ∙ ap (λ (v : PoolState). taken_over v.pool.places t.places) c.self.view_is) c.in_ok-adopt.ensures.steps

@@ -13,9 +13,9 @@ pub invariant_of-self-2 : goal.invariant_of-self-2
 unfolding AreChangesOf
 invariant_of-self-2 c =
     let base = c.self.inside.parts in
-    let seen = parts_of (places_of base.list.items) base.free base.room in
+    let seen = parts_of (places_of base.list.items) base.free base.room base.steps.count in
     let indexed : PoolIndexMatches (over seen.places c.args.changes) = subst (λ (v : Counted). PoolIndexMatches (over v.places c.args.changes)) (sym c.self.view_is) c.requires in
-    let new = parts_of (places_of c.write_changes.new.list.items) c.write_changes.new.free c.put_rooms.new.room in
+    let new = parts_of (places_of c.write_changes.new.list.items) c.write_changes.new.free c.put_rooms.new.room c.args.changes.below.count in
     let same = length-map base.list.items place_of in
     let ends : c.len-end.result ≡ length (places_of base.list.items) = cc in
     adopted seen c.self.invariant c.args.changes indexed new c.len-end.result ends (has_place c.hold_added.new.free) c.in_ok-hold_added.ensures.free
@@ -29,9 +29,9 @@ pub returns-clause-ok : goal.returns-clause-ok
 unfolding AreChangesOf taken_over
 returns-clause-ok c =
     let base = c.self.inside.parts in
-    let seen = parts_of (places_of base.list.items) base.free base.room in
+    let seen = parts_of (places_of base.list.items) base.free base.room base.steps.count in
     let indexed : PoolIndexMatches (over seen.places c.args.changes) = subst (λ (v : Counted). PoolIndexMatches (over v.places c.args.changes)) (sym c.self.view_is) c.requires in
-    let new = parts_of (places_of c.write_changes.new.list.items) c.write_changes.new.free c.put_rooms.new.room in
+    let new = parts_of (places_of c.write_changes.new.list.items) c.write_changes.new.free c.put_rooms.new.room c.args.changes.below.count in
     let same = length-map base.list.items place_of in
     let ends : c.len-end.result ≡ length (places_of base.list.items) = cc in
     c.write_changes.ensures.list ∙ ap (λ items. laid (below c.len-end.result (place_in c.args.changes.changed)) (places_of items)) c.in_ok-hold_added.ensures.list

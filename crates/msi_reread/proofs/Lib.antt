@@ -1,0 +1,4 @@
+pub mod OpenedTrees
+pub mod PartsReread
+pub mod Puts
+pub mod TreesReread
